@@ -3,7 +3,7 @@ ghost use Rattle.std.specs.Prelude.{◌≡◌, ◌∷◌, [], ◌<◌, ◌↔◌
 ghost use Rattle.any_charset.specs.Declaring.{is_gap, lines, place_after, place_behind};
 ghost use Rattle.any_charset.specs.LineRest.{lines_left};
 
-use byte_text::place_of;
+use byte_text::offset_of;
 
 /// A place at the end of some lines at the front of a text.
 #[derive(Clone, Copy, Debug, PartialEq, Eq)]
@@ -23,7 +23,7 @@ pub(crate) fn split_line(text: &[u8]) -> (&[u8], Option<&[u8]>)
     ensures lines { lines text.now ≡ result.0.now ∷ lines_left result.1 }
     ensures shorter { IfSome result.1 (λ later. length later.now < length text.now) }
 {
-    let at = place_of(text, b'\n');
+    let at = offset_of(text, b'\n');
     if at < text.len() {
         (&text[..at], Some(&text[at + 1..]))
     } else {

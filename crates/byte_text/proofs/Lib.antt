@@ -1,3 +1,3 @@
 pub mod Cutting
-pub mod Places
+pub mod Offsets
 pub mod Fronts

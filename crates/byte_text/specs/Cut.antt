@@ -3,18 +3,18 @@ use Rattle.std.specs.Prelude.{◌≡◌, ℕ, ◌<◌, ◌==◌, nat_lt, if◌th
 use Rattle.std.specs.List.{position_or_len, before_first, after_first}
 
 -- the index of the first such byte, or the length of the text if there is none
-abbrev pub place_of : ℕ → List ℕ → ℕ
-place_of byte text = position_or_len (λ b. b == byte) text
+abbrev pub offset_of : ℕ → List ℕ → ℕ
+offset_of byte text = position_or_len (λ b. b == byte) text
 
 -- what comes before the first such byte, and what follows it
 abbrev pub cut : ℕ → List ℕ → Option (List ℕ × List ℕ)
 cut byte text =
-    if nat_lt (place_of byte text) (length text)
+    if nat_lt (offset_of byte text) (length text)
     then Some (before_first (λ b. b == byte) text, after_first (λ b. b == byte) text)
     else None
 
 -- the text has such a byte, with front before the first one and behind after it
 pub record IsCut (byte : ℕ) (text front behind : List ℕ) : Type 0 where
-  pub within : place_of byte text < length text
+  pub within : offset_of byte text < length text
   pub front_is : front ≡ before_first (λ b. b == byte) text
   pub behind_is : behind ≡ after_first (λ b. b == byte) text

@@ -5,9 +5,9 @@
 mod cut;
 mod key;
 mod long;
-mod place;
+mod offset;
 
-pub use cut::{lacks_byte, place_of, split_at_byte, split_at_place, split_byte};
+pub use cut::{lacks_byte, offset_of, split_at_byte, split_at_offset, split_byte};
 pub use key::{TextKey, front_of};
 pub use long::LongKey;
-pub use place::first_set;
+pub use offset::first_set;

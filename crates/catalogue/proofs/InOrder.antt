@@ -48,11 +48,11 @@ outline_at o k (x ∷ es) zero d e lt = ap (λ n. outline_of o n x) (omega arith
 outline_at o k (x ∷ es) (suc i) d e lt = outline_at o (k + 1) es i d e (omega arith)
     ∙ ap (λ n. outline_of o n (get_or es i e)) (omega arith)
 
--- the outline of the i-th entry is among the sorted outlines, at some place
+-- the outline of the i-th entry is among the sorted outlines, at some index
 pub record Stands (o : Options) (rs : List Outline) (i : ℕ) (e : po.Entry) : Type 0 where
-  pub place : ℕ
-  pub within : place < length rs
-  pub is : (d : Outline) → get_or rs place d ≡ outline_of o i e
+  pub index : ℕ
+  pub within : index < length rs
+  pub is : (d : Outline) → get_or rs index d ≡ outline_of o i e
 
 pub stands : (o : Options) (entries : List po.Entry) (rs : List Outline) → AreOrdered o entries rs
     → (i : ℕ) (e : po.Entry) → i < length entries → Stands o rs i (get_or entries i e)
@@ -62,7 +62,7 @@ stands o entries rs ordered i e lt =
     ∙ ap (λ n. outline_of o n (get_or entries i e)) (omega arith) in
     let found : Contains rs r = Contains-permutation (outlines_from o 0 entries) rs r ordered.same
     (i, omega (arith, length-outlines_from o 0 entries), at) in
-    record { place = found.0; within = found.1; is = λ d. get_or_default rs found.0 d r found.1 ∙ found.2 }
+    record { index = found.0; within = found.1; is = λ d. get_or_default rs found.0 d r found.1 ∙ found.2 }
 
 -- each outline is that of an entry
 pub record Comes (o : Options) (entries : List po.Entry) (r : Outline) : Type 0 where
@@ -130,22 +130,22 @@ between x y z xy yz same =
 
 -- the outline of the later of two entries with one key follows an outline with this key
 pub record Repeats (rs : List Outline) (number : ℕ) : Type 0 where
-  pub place : ℕ
-  pub repeats : IsRepeat rs place
-  pub number_is : (d : Outline) → (get_or rs (place + 1) d).number ≡ number
+  pub index : ℕ
+  pub repeats : IsRepeat rs index
+  pub number_is : (d : Outline) → (get_or rs (index + 1) d).number ≡ number
 
 in_order : (o : Options) (rs : List Outline) → IsSortedBy outline_lt rs → (a b : ℕ) (x y : po.Entry) → a < b → key_of x
-    ≡ key_of y → (p : Stands o rs a x) (q : Stands o rs b y) → p.place < q.place
+    ≡ key_of y → (p : Stands o rs a x) (q : Stands o rs b y) → p.index < q.index
 in_order o rs sorted a b x y less same p q =
-    elim (cases_lt p.place q.place) [
+    elim (cases_lt p.index q.index) [
       | inl lt ↦ lt
       | inr le ↦
           let d = outline_of o a x in
-          let far : outline_lt (get_or rs p.place d) (get_or rs q.place d)
-          ≡ false = sorted_far outline_lt row_order rs sorted q.place p.place d le p.within in
+          let far : outline_lt (get_or rs p.index d) (get_or rs q.index d)
+          ≡ false = sorted_far outline_lt row_order rs sorted q.index p.index d le p.within in
           let later : outline_lt (outline_of o a x) (outline_of o b y)
           ≡ false = sym (ap (λ r. outline_lt r (outline_of o b y)) (p.is d))
-          ∙ sym (ap (outline_lt (get_or rs p.place d)) (q.is d)) ∙ far in
+          ∙ sym (ap (outline_lt (get_or rs p.index d)) (q.is d)) ∙ far in
           let le2 : b ≤ a = number_after (outline_of o a x) (outline_of o b y) later same in
           absurd (omega (arith, le2))
     ]
@@ -153,19 +153,19 @@ in_order o rs sorted a b x y less same p q =
 pub repeated : (o : Options) (rs : List Outline) → IsSortedBy outline_lt rs → (a b : ℕ) (x y : po.Entry) → a < b
     → key_of x ≡ key_of y → Stands o rs a x → Stands o rs b y → Repeats rs b
 repeated o rs sorted a b x y less same p q =
-    let lt : p.place < q.place = in_order o rs sorted a b x y less same p q in
-    let k : ℕ = q.place - 1 in
-    let next : k + 1 ≡ q.place = omega arith in
+    let lt : p.index < q.index = in_order o rs sorted a b x y less same p q in
+    let k : ℕ = q.index - 1 in
+    let next : k + 1 ≡ q.index = omega arith in
     let at : (d : Outline) → get_or rs (k + 1) d ≡ outline_of o b y = λ d. ap (λ i. get_or rs i d) next ∙ q.is d in
     let key_at : (d : Outline) → (get_or rs k d).key ≡ key_of y = λ d.
-    let far : outline_lt (get_or rs k d) (get_or rs p.place d)
-    ≡ false = sorted_far outline_lt row_order rs sorted p.place k d (omega arith) (omega (arith, q.within)) in
-    let near : outline_lt (get_or rs q.place d) (get_or rs k d)
-    ≡ false = sorted_far outline_lt row_order rs sorted k q.place d (omega arith) q.within in
+    let far : outline_lt (get_or rs k d) (get_or rs p.index d)
+    ≡ false = sorted_far outline_lt row_order rs sorted p.index k d (omega arith) (omega (arith, q.within)) in
+    let near : outline_lt (get_or rs q.index d) (get_or rs k d)
+    ≡ false = sorted_far outline_lt row_order rs sorted k q.index d (omega arith) q.within in
     between (outline_of o a x) (get_or rs k d) (outline_of o b y) (sym (ap (outline_lt (get_or rs k d)) (p.is d)) ∙ far)
     (sym (ap (λ r. outline_lt r (get_or rs k d)) (q.is d)) ∙ near) same in
     record {
-      place = k;
+      index = k;
       repeats = record {
         within = omega (arith, q.within);
         same = λ d. key_at d
@@ -202,7 +202,7 @@ take_all (x ∷ xs) = ap (λ ys. x ∷ ys) (take_all xs)
 pub all_distinct : (o : Options) (entries : List po.Entry) (rs : List Outline) → AreOrdered o entries rs
     → ((j : ℕ) → ¬ IsRepeat rs j) → HasDistinctKeys entries
 all_distinct o entries rs ordered none = subst HasDistinctKeys (take_all entries)
-    (distinct_below o entries rs ordered (length entries) (omega arith) (λ b lt r. none r.place r.repeats))
+    (distinct_below o entries rs ordered (length entries) (omega arith) (λ b lt r. none r.index r.repeats))
 
 -- ---- no number occurs twice
 
@@ -266,11 +266,11 @@ neighbours_differ o entries rs ordered i d lt same =
 pub first_duplicate : (o : Options) (entries : List po.Entry) (rs : List Outline) → AreOrdered o entries rs
     → (r : Outline) → IsFirstRepeat rs (length rs) r → IsDuplicateAt entries r.line
 first_duplicate o [] rs ordered r first =
-    let none = (comes o [] rs ordered r (first.place + 1, first.within, first.row_is r)).within in
+    let none = (comes o [] rs ordered r (first.index + 1, first.within, first.row_is r)).within in
     absurd (omega (arith, none))
 first_duplicate o (x ∷ es) rs ordered r first =
     let entries : List po.Entry = x ∷ es in
-    let i : ℕ = first.place in
+    let i : ℕ = first.index in
     let lt : i + 1 < length rs = first.within in
     let here : Comes o entries r = comes o entries rs ordered r (i + 1, lt, first.row_is r) in
     let there : Comes o entries (get_or rs i r) = comes o entries rs ordered (get_or rs i r)
@@ -301,7 +301,7 @@ first_duplicate o (x ∷ es) rs ordered r first =
       split = sym (take-append-drop n entries) ∙ ap (λ (t : List po.Entry). take n entries ++ t)
           (drop_more entries n x here.within);
       distinct_before = distinct_below o entries rs ordered n (omega (arith, here.within)) (λ b below again.
-          let least = first.first again.place r again.repeats.within again.repeats in
+          let least = first.first again.index r again.repeats.within again.repeats in
           let number = again.number_is r in
           omega (arith, below, least, number, r_number));
       again = (

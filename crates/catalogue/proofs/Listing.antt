@@ -197,7 +197,7 @@ is_map o entries rs ordered lawful none = record {
       (each_listed o (map_of rs) entries (λ i d lt is.
       let e = get_or entries i d in
       let p = stands o entries rs ordered i d lt in
-      let has : Contains rs (outline_of o i e) = (p.place, p.within, p.is (outline_of o i e)) in
+      let has : Contains rs (outline_of o i e) = (p.index, p.within, p.is (outline_of o i e)) in
       has_filter_map kept_entry rs (outline_of o i e) (message_of e) has
       (kept_is o i e (All-get_or Lawful entries i d lt (All-from_recursion Lawful entries lawful)) is)));
   nothing_else = All-from_recursion (Contains (map message_of (kept o entries))) (map_of rs)

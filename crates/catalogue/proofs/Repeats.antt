@@ -57,7 +57,7 @@ least_before rs i r (Some other) found is_first j lt d repeats =
 taken : (rs : List Outline) (i : ℕ) (before r : Outline) (first : Option Outline) → Looks rs i before r → before.key
     ≡ r.key → is_earlier r first ≡ true → FirstRepeat rs i first → IsFirstRepeat rs (i + 1) r
 taken rs i before r first l same is_first so_far = record {
-  place = i - 1;
+  index = i - 1;
   within = omega (arith, l.some);
   repeats = repeat_here rs i before r l same;
   row_is = behind rs i before r l;
@@ -73,7 +73,7 @@ stays : (rs : List Outline) (i : ℕ) (first : Option Outline) → 1 ≤ i → F
     → FirstRepeat rs (i + 1) first
 stays rs i None some none later nothing = up_to (λ k. ¬ IsRepeat rs k) i some none (nothing refl)
 stays rs i (Some other) some found later nothing = record {
-  place = found.place;
+  index = found.index;
   within = omega (arith, found.within);
   repeats = found.repeats;
   row_is = found.row_is;
@@ -127,7 +127,7 @@ pub first_all : (ds : List Draft) (i : ℕ) (first : Option Outline) → length 
     → FirstRepeat (outlines ds) (length ds) first
 first_all ds i None le none = λ j lt. none j (omega (arith, lt, le))
 first_all ds i (Some r) le found = record {
-  place = found.place;
+  index = found.index;
   within = omega (arith, found.repeats.within, length-map ds outline);
   repeats = found.repeats;
   row_is = found.row_is;

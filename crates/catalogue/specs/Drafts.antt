@@ -99,10 +99,10 @@ pub record IsRepeat (rs : List Outline) (i : ℕ) : Type 0 where
 
 -- of the first n outlines that have the key of the one before them, this one comes first in the PO text
 pub record IsFirstRepeat (rs : List Outline) (n : ℕ) (r : Outline) : Type 0 where
-  pub place : ℕ
-  pub within : place + 1 < n
-  pub repeats : IsRepeat rs place
-  pub row_is : (d : Outline) → slice_index_or rs (place + 1) d ≡ r
+  pub index : ℕ
+  pub within : index + 1 < n
+  pub repeats : IsRepeat rs index
+  pub row_is : (d : Outline) → slice_index_or rs (index + 1) d ≡ r
   pub first : (j : ℕ) (d : Outline) → j + 1 < n → IsRepeat rs j → r.number ≤ (slice_index_or rs (j + 1) d).number
 
 abbrev pub FirstRepeat : List Outline → ℕ → Option Outline → Type 0

@@ -2,7 +2,7 @@
 use Rattle.std.specs.Prelude.{◌≡◌, ℕ, ◌==◌, nat_lt, if◌then◌else◌, List, length, Option, Some, None, MatchOption}
 use Rattle.std.specs.Prelude.{slice_get}
 use denote.Ref.{Bor}
-use Rattle.po_header.specs.Rule.{Rule, place}
+use Rattle.po_header.specs.Rule.{Rule, form_index}
 pub use Rattle.po_header.specs.Rule.{HasRuleIn}
 use Rattle.mo_image.specs.Entry.{Entry}
 use Rattle.mo_image.specs.Map.{entry_at, header_text}
@@ -28,7 +28,7 @@ form_or_first forms k = slice_get forms (if nat_lt k (length forms) then k else 
 
 -- the form that the rule selects for n
 abbrev pub IsFormFor : Rule → ℕ → List (List ℕ) → List ℕ → Type 0
-IsFormFor rule n forms text = form_or_first forms (place rule n) ≡ Some text
+IsFormFor rule n forms text = form_or_first forms (form_index rule n) ≡ Some text
 
 -- the form that the map's rule selects for n
 abbrev pub IsMapFormFor : List Entry → ℕ → List (List ℕ) → List ℕ → Type 0

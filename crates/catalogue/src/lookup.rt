@@ -12,7 +12,7 @@ use po_header::RuleRead;
 
 /// Returns the index of the form that the rule selects for `n`, or 0 if the entry has no such form.
 #[inline(always)]
-fn place_by(entry: &EntryRef<'_>, rule: &RuleRead, n: u64) -> usize
+fn form_index_by(entry: &EntryRef<'_>, rule: &RuleRead, n: u64) -> usize
     ensures within { result < length entry.now.forms }
     ensures form { (text : List ℕ) → slice_get entry.now.forms result ≡ Some text
         → IsFormFor (rule_of rule.now) n entry.now.forms text }
@@ -78,7 +78,7 @@ impl Catalogue {
     pub fn form_for<'a>(&self, entry: &EntryRef<'a>, n: u64) -> &'a str
         ensures { IsMapFormFor self.now n entry.now.forms result.now }
     {
-        entry.form(place_by(entry, self.rule(), n))
+        entry.form(form_index_by(entry, self.rule(), n))
     }
 
     /// Translates a msgid: returns the first form of its entry, or the msgid itself if there is no entry (GNU gettext
@@ -117,14 +117,14 @@ impl Catalogue {
 
     /// Returns the index of the form that is asked for: 0 without a number, else that of the form for the number.
     #[inline(always)]
-    fn asked_place(&self, entry: &EntryRef<'_>, n: Option<u64>) -> usize
+    fn asked_form_index(&self, entry: &EntryRef<'_>, n: Option<u64>) -> usize
         requires { 0 < length entry.now.forms }
         ensures within { result < length entry.now.forms }
         ensures form { (text : List ℕ) → slice_get entry.now.forms result ≡ Some text
             → IsAskedForm self.now n entry.now.forms text }
     {
         match n {
-            Some(n) => place_by(entry, self.rule(), n),
+            Some(n) => form_index_by(entry, self.rule(), n),
             None => 0,
         }
     }
@@ -137,7 +137,7 @@ impl Catalogue {
             n (option_map (λ s. s.now) result) }
     {
         let entry = self.find(context, id)?;
-        Some(entry.form(self.asked_place(&entry, n)))
+        Some(entry.form(self.asked_form_index(&entry, n)))
     }
 
     /// Returns a form of an entry of this catalogue, followed by a NUL, which makes it a C string: the first form or,
@@ -148,7 +148,7 @@ impl Catalogue {
     {
         // Calling `translation` tells the prover that the entry is lawful, and so has a form.
         let _translation = entry.translation();
-        entry.closed_form(self.asked_place(entry, n))
+        entry.closed_form(self.asked_form_index(entry, n))
     }
 
     /// Translates a message by its bytes, which needn't be UTF-8, as `translated` does; the result is a C string.

@@ -4,7 +4,7 @@ use Rattle.std.proofs.Common.{Some, map, None, Result, Ok, Err, refl, arith, inl
 use Rattle.std.specs.Prelude.{nat_lt}
 use Rattle.std.specs.List.{AllByRecursion, AllZip, filter, filter_map, flat_map, last_or}
 use Rattle.std.proofs.lemmas.Bool.{cases_Bool, cases_lt, ltb-true}
-use Rattle.po_header.specs.Rule.{Rule, Absent, place}
+use Rattle.po_header.specs.Rule.{Rule, Absent, form_index}
 use Rattle.po_header.proofs.RuleLemmas.{HasRule-some}
 use Rattle.catalogue.specs.Entry.{Entry, key_bytes}
 use Rattle.catalogue.specs.Map.{header_text, entry_at}
@@ -86,8 +86,8 @@ counted_some m k n other formed none = go (entry_at m k) refl none
   where
     go : (o : Option Entry) → entry_at m k ≡ o → ((text : List ℕ) → IsCounted m o n other text → ⊥) → ⊥
     go None e none = none other refl
-    go (Some x) e none = rule_some (header_text m) (λ (rule, has). let (text, is) = form_some x.forms (place rule n)
-        (formed x (from_find _ m x e).0) in none text (rule, has, is))
+    go (Some x) e none = rule_some (header_text m) (λ (rule, has). let (text, is) = form_some x.forms
+        (form_index rule n) (formed x (from_find _ m x e).0) in none text (rule, has, is))
 
 value_some : (m : List Entry) (a : AskValue) → IsFormed m → ((text : List ℕ) → HasValue m a text → ⊥) → ⊥
 value_some m (Plain id) formed none = first_some m (key_bytes None id) id formed none

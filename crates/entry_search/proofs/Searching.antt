@@ -1,4 +1,4 @@
--- The place of a key among rising keys, and a binary search for it.
+-- The index of a key among rising keys, and a binary search for it.
 use Rattle.std.proofs.Common.{◌≡◌, ℕ, zero, suc, ◌+◌, ◌<◌, ◌≤◌, true, false, List, [], ◌∷◌, length, map, Option, Some}
 use Rattle.std.proofs.Common.{None, Ordering, slice_get, refl, sym, ap, ◌∙◌, subst, arith, lit≤, inl, inr}
 use Rattle.std.specs.Prelude.{IfSome, ◌-◌, ◌*◌, ◌/◌, ◌^◌}
@@ -49,7 +49,7 @@ rises_rest k (l ∷ ks) rises = rises.1
 mapped : (m : List Entry) (j : ℕ) (e : Entry) → slice_get m j ≡ Some e → slice_get (map key m) j ≡ Some (key e)
 mapped m j e h = slice_get-map key m j e h
 
--- the later of two places has the greater key
+-- the later of two entries has the greater key
 pub rises_pair : (m : List Entry) (i j : ℕ) (d e : Entry) → Rises (map key m) → i < j → slice_get m i ≡ Some d
     → slice_get m j ≡ Some e → slice_cmp nat_cmp (key d) (key e) ≡ Less
 rises_pair [] i j d e rises lt di ej = absurd cc
@@ -143,7 +143,7 @@ pub found_equal : (m : List Entry) (i : ℕ) (e : Entry) (asked : List ℕ) → 
 found_equal m i e asked rises here equal = find_some m i e asked rises here
     (slice_cmp-IsAntisymmetric nat_cmp-IsAntisymmetric (key e) asked equal)
 
--- what a comparison says about the message at a place
+-- what a comparison says about the message with an index
 pub order_at : (m : List Entry) (i : ℕ) (e : Entry) (asked : List ℕ) (o : Ordering)
     → IfSome (slice_get m i) (λ x. o ≡ slice_cmp nat_cmp (key x) asked) → slice_get m i ≡ Some e
     → slice_cmp nat_cmp (key e) asked ≡ o

@@ -36,21 +36,21 @@ no_slot slots t cut climbs is lt other slot has same = elim (cases_lt has.0 cut)
   )
 ]
 
--- ---- slots near a place
+-- ---- slots near an index
 
--- a slot among the first slots from a place on is among all of them
-pub among_all : (slots behind near : List Slot) (place n : ℕ) (found : Option (Bor Slot))
-    → behind ≡ slice_range slots place (length slots) → length behind + place ≡ length slots
+-- a slot among the first slots from an index on is among all of them
+pub among_all : (slots behind near : List Slot) (slot_index n : ℕ) (found : Option (Bor Slot))
+    → behind ≡ slice_range slots slot_index (length slots) → length behind + slot_index ≡ length slots
     → IsFirstChunk behind near n → IfSome found (λ slot. Contains near slot.now)
     → IfSome found (λ slot. Contains slots slot.now)
-among_all slots behind near place n None is long front here = here
-among_all slots behind near place n (Some slot) is long front here =
-    let all = length slots - place in
+among_all slots behind near slot_index n None is long front here = here
+among_all slots behind near slot_index n (Some slot) is long front here =
+    let all = length slots - slot_index in
     let lt : here.0 < n = omega (arith, here.1, ap length front.same, length-take-le n behind front.enough) in
     let first : get_or near here.0 slot.now ≡ get_or behind here.0 slot.now =
     ap (λ (xs : List Slot). get_or xs here.0 slot.now) front.same ∙ get_or-take n behind here.0 slot.now lt in
-    let then : get_or behind here.0 slot.now ≡ get_or slots (place + here.0) slot.now =
+    let then : get_or behind here.0 slot.now ≡ get_or slots (slot_index + here.0) slot.now =
     ap (λ (xs : List Slot). get_or xs here.0 slot.now) is
-    ∙ get_or-take all (drop place slots) here.0 slot.now (omega (arith, lt, front.enough, long))
-    ∙ get_or-drop place slots here.0 slot.now in
-    (place + here.0, omega (arith, lt, front.enough, long), sym then ∙ sym first ∙ here.2)
+    ∙ get_or-take all (drop slot_index slots) here.0 slot.now (omega (arith, lt, front.enough, long))
+    ∙ get_or-drop slot_index slots here.0 slot.now in
+    (slot_index + here.0, omega (arith, lt, front.enough, long), sym then ∙ sym first ∙ here.2)

@@ -1,3 +1,3 @@
 pub mod Search
 pub mod Index
-pub mod Place
+pub mod EntryIndex

@@ -88,7 +88,7 @@ impl Entries {
     #[inline(always)]
     pub fn hint(&self, asked: &AskedKey<'_>) -> u64 {
         match &self.index {
-            Some(index) if index.is_large() => index.likely_place(asked.hash()) as u64,
+            Some(index) if index.is_large() => index.likely_slot(asked.hash()) as u64,
             _ => NO_HINT,
         }
     }

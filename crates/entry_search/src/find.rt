@@ -7,7 +7,7 @@ ghost use Rattle.mo_image.specs.Entry.{key, key_bytes, LacksByte};
 ghost use Rattle.mo_image.specs.Map.{entry_at};
 ghost use Rattle.mo_image.specs.Pairs.{key_part, HasNulAt};
 ghost use Rattle.entry_search.specs.Search.{AtMostDigits};
-ghost use Rattle.entry_search.specs.Place.{IsPlaceOf};
+ghost use Rattle.entry_search.specs.EntryIndex.{IsEntryIndexOf};
 ghost use Rattle.entry_search.specs.Index.{IsIndex};
 
 use crate::asked::has_key;
@@ -40,11 +40,11 @@ impl<'a> Model for Sought<'a> {
     ghost invariant = { λ a. IsTrue a.is_text → LacksByte 0 a.id.now };
 }
 
-/// Whether an original has a NUL at this place.
-fn has_nul_at(original: &[u8], place: usize) -> bool
-    ensures { IsTrue result ↔ HasNulAt original.now place }
+/// Whether an original has a NUL at this offset.
+fn has_nul_at(original: &[u8], offset: usize) -> bool
+    ensures { IsTrue result ↔ HasNulAt original.now offset }
 {
-    place < original.len() && original[place] == 0
+    offset < original.len() && original[offset] == 0
 }
 
 /// Compares the key of an original with a msgid. The original is compared as a whole: a plural after the key changes
@@ -83,7 +83,7 @@ impl<'a> Sought<'a> {
     }
 }
 
-/// Returns the place in the middle of those from `low` up to `high`.
+/// Returns the index in the middle of those from `low` up to `high`.
 fn middle(low: usize, high: usize) -> usize
     requires { low < high }
     ensures { result ≡ low + (high - low) / 2 }
@@ -124,10 +124,10 @@ fn compare_at<L: Ledger>(
     compare(image.original(i), sought, steps)
 }
 
-/// Finds the place of the entry with this key, by binary search. (It returns a place rather than an entry so that what
+/// Finds the index of the entry with this key, by binary search. (It returns an index rather than an entry so that what
 /// an index finds stays in registers.)
 fn search<L: Ledger>(image: &Image, sought: &Sought<'_>, steps: &mut Steps<L>) -> Option<usize>
-    ensures found { IsPlaceOf image.now sought.now result }
+    ensures found { IsEntryIndexOf image.now sought.now result }
     ensures cost { AtMostDigits (length image.now) steps.old steps.new }
 {
     let mut low = 0;
@@ -143,15 +143,15 @@ fn search<L: Ledger>(image: &Image, sought: &Sought<'_>, steps: &mut Steps<L>) -
     None
 }
 
-/// Finds the place of the entry of a msgid, in a context or in none, by binary search.
+/// Finds the index of the entry of a msgid, in a context or in none, by binary search.
 #[inline(never)]
-fn place_by_halves<L: Ledger>(
+fn entry_index_by_halves<L: Ledger>(
     image: &Image,
     context: Option<&[u8]>,
     id: &[u8],
     steps: &mut Steps<L>,
 ) -> Option<usize>
-    ensures found { IsPlaceOf image.now (key_bytes (option_map (λ s. s.now) context.entry) id.now) result }
+    ensures found { IsEntryIndexOf image.now (key_bytes (option_map (λ s. s.now) context.entry) id.now) result }
     ensures cost { AtMostDigits (length image.now) steps.old steps.new }
 {
     search(image, &Sought::new(context, id), steps)
@@ -168,7 +168,7 @@ fn search_by_halves<'a, L: Ledger>(
     ensures cost { AtMostDigits (length image.now) steps.old steps.new }
 {
     let (context, id) = asked.texts();
-    match place_by_halves(image, context, id, steps) {
+    match entry_index_by_halves(image, context, id, steps) {
         Some(i) => Some(image.entry(i)),
         None => None,
     }
@@ -247,20 +247,20 @@ pub(crate) fn find_in<'a>(
     search_uncounted::<Brand>(image, index, asked, Blank::new(1))
 }
 
-/// Returns the entry whose slot is at a place, if it is that of this msgid, in a context or in none.
+/// Returns the entry whose slot has this index, if it is that of this msgid, in a context or in none.
 #[inline(always)]
-fn entry_at_place<'a>(
+fn entry_at_slot<'a>(
     image: &'a Image,
     index: &Index,
     context: Option<&[u8]>,
     id: &[u8],
-    place: usize,
+    slot_index: usize,
 ) -> Option<EntryRef<'a>>
     requires { IsIndex image.now index.now }
     ensures { IfSome result (λ e. entry_at image.now (key_bytes (option_map (λ s. s.now) context.entry) id.now)
         ≡ Some e) }
 {
-    let entry = image.entry_in(&index.at(place)?.extents);
+    let entry = image.entry_in(&index.at(slot_index)?.extents);
     if has_key(&entry, context, id) {
         Some(entry)
     } else {
@@ -268,20 +268,20 @@ fn entry_at_place<'a>(
     }
 }
 
-/// Finds the entry of a msgid as `find_in` does. If there is an index, it first looks at the slot at `place`.
+/// Finds the entry of a msgid as `find_in` does. If there is an index, it first looks at the slot at `slot_index`.
 #[inline(always)]
 pub(crate) fn find_near<'a>(
     image: &'a Image,
     index: Option<&Index>,
     context: Option<&[u8]>,
     id: &[u8],
-    place: usize,
+    slot_index: usize,
 ) -> Option<EntryRef<'a>>
     requires { IfSome index (λ index. IsIndex image.now index.now) }
     ensures { result ≡ entry_at image.now (key_bytes (option_map (λ s. s.now) context.entry) id.now) }
 {
     if let Some(index) = index {
-        if let Some(entry) = entry_at_place(image, index, context, id, place) {
+        if let Some(entry) = entry_at_slot(image, index, context, id, slot_index) {
             return Some(entry);
         }
     }

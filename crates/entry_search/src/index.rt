@@ -53,17 +53,17 @@ impl Index {
         self.slots.is_large()
     }
 
-    /// Returns the place where the slot of this hash should be (`SlotTable::likely_place`).
+    /// Returns the index where the slot of this hash should be (`SlotTable::likely_slot`).
     #[inline(always)]
-    pub(crate) fn likely_place(&self, hash: u32) -> usize {
-        self.slots.likely_place(hash)
+    pub(crate) fn likely_slot(&self, hash: u32) -> usize {
+        self.slots.likely_slot(hash)
     }
 
-    /// Returns the slot at a place, if there is one.
+    /// Returns the slot with this index, if there is one.
     #[inline(always)]
-    pub(crate) fn at(&self, place: usize) -> Option<&Slot>
+    pub(crate) fn at(&self, slot_index: usize) -> Option<&Slot>
         ensures { IfSome result (λ slot. Contains self.now.slots slot.now) }
     {
-        self.slots.at(place)
+        self.slots.at(slot_index)
     }
 }

@@ -27,7 +27,7 @@ pub(crate) struct Slot {
 #[derive(Drop)]
 pub(crate) struct SlotTable {
     slots: Vec<Slot>,
-    /// The number of places that the hashes are spread over.
+    /// The number of slots that the hashes are spread over.
     spread: usize,
 }
 
@@ -64,7 +64,7 @@ pub(crate) fn hash_within(context: &[u8], id: &[u8]) -> u32
     (hasher.finish() >> 32) as u32
 }
 
-/// Returns the home of a hash: the place where its slot is expected if slots are spread over `spread` places.
+/// Returns the home of a hash: the index where its slot is expected if slots are spread over `spread` indexes.
 #[inline(always)]
 pub(crate) fn home(hash: u32, spread: usize) -> usize
     ensures { result < 4294967296 }
@@ -122,13 +122,13 @@ impl SlotTable {
         self.slots.len() >= LARGE
     }
 
-    /// Returns the slot of this hash, if it is at this place or one of the next few.
+    /// Returns the slot of this hash, if it has this index or one of the next few.
     #[inline(always)]
-    fn slot_near(&self, hash: u32, place: usize) -> Option<&Slot>
+    fn slot_near(&self, hash: u32, slot_index: usize) -> Option<&Slot>
         ensures some { IfSome result (λ slot. Contains self.now slot.now) }
         ensures hash { IfSome result (λ slot. slot.now.hash ≡ hash) }
     {
-        let behind = self.slots.get(place..)?;
+        let behind = self.slots.get(slot_index..)?;
         match behind.first_chunk() {
             Some(near) => slot_in(near, hash),
             None => slot_among(behind, hash),
@@ -151,13 +151,13 @@ impl SlotTable {
         cut == self.slots.len() || bound <= self.slots[cut].hash
     }
 
-    /// Counts the slots with hashes below the bound, if the last of them is near `place`.
+    /// Counts the slots with hashes below the bound, if the last of them is near `slot_index`.
     #[inline(always)]
-    fn cut_near(&self, bound: u32, place: usize) -> Option<usize>
+    fn cut_near(&self, bound: u32, slot_index: usize) -> Option<usize>
         ensures { IfSome result (λ cut. IsCut self.now bound cut) }
     {
-        let end = place.saturating_add(REACH).min(self.slots.len());
-        let start = place.saturating_sub(REACH).min(end);
+        let end = slot_index.saturating_add(REACH).min(self.slots.len());
+        let start = slot_index.saturating_sub(REACH).min(end);
         let cut = start.saturating_add(count_below(&self.slots[start..end], bound));
         let cut = cut.min(self.slots.len());
         if self.is_below(bound, cut) && self.is_above(bound, cut) {
@@ -167,11 +167,11 @@ impl SlotTable {
         }
     }
 
-    /// Counts the slots with hashes below the bound, by binary search if the last of them is far from `place`.
-    fn cut(&self, bound: u32, place: usize) -> usize
+    /// Counts the slots with hashes below the bound, by binary search if the last of them is far from `slot_index`.
+    fn cut(&self, bound: u32, slot_index: usize) -> usize
         ensures { IsCut self.now bound result }
     {
-        match self.cut_near(bound, place) {
+        match self.cut_near(bound, slot_index) {
             Some(cut) => cut,
             None => self.slots.partition_point(|slot| slot.hash < bound),
         }
@@ -212,9 +212,9 @@ impl SlotTable {
         }
     }
 
-    /// Returns the place where the slot of this hash should be. It may be another's, and there may be no such place.
+    /// Returns the index where the slot of this hash should be. It may be another's, and there may be no such slot.
     #[inline(always)]
-    pub(crate) fn likely_place(&self, hash: u32) -> usize {
+    pub(crate) fn likely_slot(&self, hash: u32) -> usize {
         let home = home(hash, self.spread);
         let Some(behind) = self.slots.get(home..) else {
             return home;
@@ -226,11 +226,11 @@ impl SlotTable {
         }
     }
 
-    /// Returns the slot at a place, if there is one.
+    /// Returns the slot with this index, if there is one.
     #[inline(always)]
-    pub(crate) fn at(&self, place: usize) -> Option<&Slot>
+    pub(crate) fn at(&self, slot_index: usize) -> Option<&Slot>
         ensures { IfSome result (λ slot. Contains self.now slot.now) }
     {
-        self.slots.get(place)
+        self.slots.get(slot_index)
     }
 }

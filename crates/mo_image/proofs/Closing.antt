@@ -10,7 +10,7 @@ use Rattle.std.proofs.lemmas.List.Splits.{join_with_byte-slice_split, length-sli
 use Rattle.std.proofs.lemmas.List.Sums.{passes_at_first}
 use Rattle.std.proofs.lemmas.Str.{IsUtf8-append}
 use Rattle.byteorder.specs.Endian.{little_number}
-use Rattle.byte_text.specs.Cut.{cut, place_of, IsCut}
+use Rattle.byte_text.specs.Cut.{cut, offset_of, IsCut}
 use Rattle.mo_image.specs.Entry.{Entry, HasForms, IsLawfulEntry, LacksByte}
 use Rattle.mo_image.specs.Extents.{piece, HoldsClosed, IsNamedAt}
 use Rattle.mo_image.specs.Image.{NamesText}
@@ -52,7 +52,7 @@ closed_held bytes place extent h text nul = record {
 -- a form and the NUL after it
 pub closed_front : (text form others : List ℕ) → IsCut 0 text form others → take (length form + 1) text ≡ closed form
 closed_front text form others at =
-    let p : ℕ = place_of 0 text in
+    let p : ℕ = offset_of 0 text in
     let len : length form ≡ p = ap length at.front_is ∙ length-take-le p text (omega (arith, at.within)) in
     let nul : get_or text p 0 ≡ 0 = eqb-true _ _ (passes_at_first (λ b. eqb b 0) text 0 at.within) in
     ap (λ (n : ℕ). take (n + 1) text) len ∙ take_more text p 0 at.within

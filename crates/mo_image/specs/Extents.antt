@@ -2,7 +2,7 @@
 use Rattle.std.specs.Prelude.{◌≡◌, ℕ, ◌+◌, ◌*◌, ◌<◌, ◌≤◌, List, length, take, drop, slice_index}
 use Rattle.std.specs.Str.{IsUtf8}
 use Rattle.byteorder.specs.Endian.{little_number}
-use Rattle.byte_text.specs.Cut.{place_of}
+use Rattle.byte_text.specs.Cut.{offset_of}
 use Rattle.mo_image.specs.MoFile.{header_len}
 use Rattle.mo_image.specs.Tables.{string_at, word_at}
 use Rattle.mo_image.specs.declared.extent.EntryExtents.{EntryExtents}
@@ -33,7 +33,7 @@ pub record AreTextsOf (bytes : List ℕ) (n i : ℕ) (texts : TextExtents) : Typ
   pub within : i < n
   pub original : IsNamedAt bytes (header_len + 8 * i) texts.original
   pub translation : IsNamedAt bytes (header_len + 8 * n + 8 * i) texts.translation
-  pub key_len : texts.key_len ≡ place_of 0 (string_at little_number bytes (header_len + 8 * i))
+  pub key_len : texts.key_len ≡ offset_of 0 (string_at little_number bytes (header_len + 8 * i))
 
 -- in place of a key's length, if the lengths don't fit
 abbrev pub no_len : ℕ

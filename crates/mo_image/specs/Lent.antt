@@ -1,7 +1,7 @@
 -- Private: the strings that an entry borrows, the length of its key, and its translation with the NUL after it.
 use Rattle.std.specs.Prelude.{◌≡◌, ℕ, ◌<◌, ◌==◌, List, length, slice_get, IfSome}
 use Rattle.std.specs.List.{AllByRecursion, slice_split}
-use Rattle.byte_text.specs.Cut.{place_of}
+use Rattle.byte_text.specs.Cut.{offset_of}
 use Rattle.mo_image.specs.Entry.{IsLawfulEntry, LacksByte}
 use Rattle.mo_image.specs.MoFile.{closed}
 use Rattle.mo_image.specs.Pairs.{entry_of}
@@ -9,7 +9,7 @@ use Rattle.mo_image.specs.Pairs.{entry_of}
 -- an original with the length of its key, and a translation, without and with the NUL after it
 pub record IsLent (o : List ℕ) (n : ℕ) (t c : List ℕ) : Type 0 where
   pub lawful : IsLawfulEntry (entry_of o t)
-  pub key_len : n ≡ place_of 0 o
+  pub key_len : n ≡ offset_of 0 o
   pub closed : c ≡ closed t
 
 -- a form with its NUL, and the rest

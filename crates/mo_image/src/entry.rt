@@ -3,12 +3,12 @@ ghost use Rattle.std.specs.Prelude.{◌≡◌, ◌<◌, ◌==◌, ◌∷◌, len
 ghost use Rattle.std.specs.List.{count_by, slice_split};
 ghost use Rattle.mo_image.specs.Entry.{IsLawfulEntry, key, translation};
 ghost use Rattle.mo_image.specs.MoFile.{closed};
-ghost use Rattle.byte_text.specs.Cut.{cut, place_of};
+ghost use Rattle.byte_text.specs.Cut.{cut, offset_of};
 ghost use Rattle.mo_image.specs.Parts.{forms_left};
 ghost use Rattle.mo_image.specs.Pairs.{key_part, plural_part};
 ghost use Rattle.mo_image.specs.Lent.{IsClosedCut, IsClosedFormOf, IsLent};
 
-use byte_text::{place_of, split_at_byte, split_at_place};
+use byte_text::{offset_of, split_at_byte, split_at_offset};
 use std::marker::Model;
 
 /// Separates a key from its plural, and a form from the next.
@@ -112,10 +112,10 @@ fn closed_form_at(forms: &str, k: usize) -> &[u8]
 /// Returns the key of an original, given the key's length.
 #[inline(always)]
 fn key_within(original: &str, len: usize) -> &str
-    requires { len ≡ place_of 0 original.now }
+    requires { len ≡ offset_of 0 original.now }
     ensures { result.now ≡ key_part original.now }
 {
-    match split_at_place(original, NUL, len) {
+    match split_at_offset(original, NUL, len) {
         Some((key, _)) => key,
         None => original,
     }
@@ -124,10 +124,10 @@ fn key_within(original: &str, len: usize) -> &str
 /// Returns the plural of an original, if it has one, given the length of the key.
 #[inline(always)]
 fn plural_behind(original: &str, len: usize) -> Option<&str>
-    requires { len ≡ place_of 0 original.now }
+    requires { len ≡ offset_of 0 original.now }
     ensures { option_map (λ s. s.now) result ≡ plural_part original.now }
 {
-    let (_, plural) = split_at_place(original, NUL, len)?;
+    let (_, plural) = split_at_offset(original, NUL, len)?;
     Some(plural)
 }
 
@@ -135,7 +135,7 @@ fn plural_behind(original: &str, len: usize) -> Option<&str>
 pub fn key_of(original: &str) -> &str
     ensures { result.now ≡ key_part original.now }
 {
-    key_within(original, place_of(original.as_bytes(), NUL))
+    key_within(original, offset_of(original.as_bytes(), NUL))
 }
 
 /// Splits a key at its first byte 4 into the context and the msgid. `None` means that the key has no context.

@@ -5,7 +5,7 @@ ghost use Rattle.byteorder.specs.Endian.{little_number};
 ghost use Rattle.mo_image.specs.Entry.{Entry, key};
 ghost use Rattle.mo_image.specs.Map.{IsFileOf, IsLawful};
 ghost use Rattle.mo_image.specs.MoFile.{header_len, spelling};
-ghost use Rattle.byte_text.specs.Cut.{place_of};
+ghost use Rattle.byte_text.specs.Cut.{offset_of};
 ghost use Rattle.mo_image.specs.Tables.{word_at, string_at};
 ghost use Rattle.mo_image.specs.Pairs.{key_part};
 ghost use Rattle.mo_image.specs.Image.{listing, IsImage, NamesText};
@@ -15,7 +15,7 @@ use crate::EntryRef;
 use crate::extent::{EntryExtents, TextExtents, closed_in, extent_at, text_in};
 use crate::layout::{COUNT_AT, HEADER_LEN, ROW_LEN};
 use crate::writer::{EntryList, spell};
-use byte_text::place_of;
+use byte_text::offset_of;
 use byteorder::{ByteOrder, LittleEndian};
 use std::alloc::{AllocError, Global};
 use std::marker::Model;
@@ -84,10 +84,10 @@ fn original_of(bytes: &[u8], i: usize) -> &str
 #[inline(always)]
 fn key_len(original: &str) -> u32
     requires { length original.now < 4294967296 }
-    ensures place { result ≡ place_of 0 original.now }
+    ensures place { result ≡ offset_of 0 original.now }
     ensures within { result ≤ length original.now }
 {
-    place_of(original.as_bytes(), 0) as u32
+    offset_of(original.as_bytes(), 0) as u32
 }
 
 /// Returns where the texts of the i-th entry lie.

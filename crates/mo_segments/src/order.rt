@@ -6,7 +6,7 @@ ghost use Rattle.mo_segments.specs.Flat.{AreKept};
 ghost use Rattle.mo_segments.specs.Keeping.{IsMapOf};
 
 use crate::messages::Strings;
-use byte_text::place_of;
+use byte_text::offset_of;
 use std::alloc::{AllocError, Global};
 use std::collections::BTreeMap;
 
@@ -14,7 +14,7 @@ use std::collections::BTreeMap;
 fn key(original: &[u8]) -> &[u8]
     ensures { result.now ≡ before_nul original.now }
 {
-    &original[..place_of(original, 0)]
+    &original[..offset_of(original, 0)]
 }
 
 /// Adds a message, unless there is one with its key.

@@ -6,7 +6,7 @@ ghost use Rattle.mo_segments.specs.Expanding.{AreSegments, LacksSomeSegment};
 use crate::fault::DependentFault;
 use crate::machine::{Value, value_of};
 use crate::words::word;
-use byte_text::place_of;
+use byte_text::offset_of;
 use byteorder::ByteOrder;
 use mo_image::ROW_LEN;
 use std::alloc::Global;
@@ -29,7 +29,7 @@ fn name<T: ByteOrder>(bytes: &[u8], row: usize) -> &[u8]
 {
     let start = word::<T>(bytes, row + 4);
     let string = &bytes[start..start + word::<T>(bytes, row)];
-    &string[..place_of(string, 0)]
+    &string[..offset_of(string, 0)]
 }
 
 /// Reads what the `n` segments of a table stand for.

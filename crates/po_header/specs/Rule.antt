@@ -65,7 +65,7 @@ abbrev pub germanic : ℕ → ℕ
 germanic n = if n == 1 then 0 else 1
 
 -- the index of the form that n takes
-abbrev pub place : Rule → ℕ → ℕ
-place (Given nplurals tree) n = form_of nplurals (value tree n)
-place Absent n = germanic n
-place Broken n = germanic n
+abbrev pub form_index : Rule → ℕ → ℕ
+form_index (Given nplurals tree) n = form_of nplurals (value tree n)
+form_index Absent n = germanic n
+form_index Broken n = germanic n

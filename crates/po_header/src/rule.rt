@@ -1,6 +1,6 @@
 //! The plural rule.
 ghost use Rattle.std.specs.Prelude.{◌≡◌, ℕ, List, IfOk, IfErr, IsOk, option_map};
-ghost use Rattle.po_header.specs.Rule.{Absent, Rule, HasRule, HasRuleIn, leading_number, place};
+ghost use Rattle.po_header.specs.Rule.{Absent, Rule, HasRule, HasRuleIn, leading_number, form_index};
 ghost use Rattle.po_header.specs.Rules.{rule_of};
 
 use crate::ExprFault;
@@ -86,7 +86,7 @@ impl RuleRead {
     /// The index of the form that a number takes: the expression's value if that is below `nplurals`, else 0. Without a
     /// rule, or with a broken one, it is 0 for 1 and 1 for all other numbers.
     pub fn form_index(&self, n: u64) -> u64
-        ensures { result ≡ place (rule_of self.now) n }
+        ensures { result ≡ form_index (rule_of self.now) n }
     {
         match self {
             RuleRead::Given { nplurals, expr } => match expr.eval(n) {

@@ -3,15 +3,15 @@ use Rattle.std.proofs.Common.{◌≡◌, ◌≢◌, ℕ, ◌+◌, Bool, true, fa
 use Rattle.std.proofs.Common.{◌++◌, length, Option, Some, None, refl, subst, inl, inr}
 use Rattle.std.specs.Prelude.{if◌then◌else◌, ◌==◌, ◌⊎◌}
 use Rattle.std.specs.List.{Contains}
-use Rattle.po_text.specs.declared.places.Place as code
-use Rattle.po_text.specs.declared.places.Place.TheVariants as places
+use Rattle.po_text.specs.declared.stages.Stage as code
+use Rattle.po_text.specs.declared.stages.Stage.TheVariants as stages
 use Rattle.po_text.specs.declared.lexer.Token as code_token
 use Rattle.po_text.specs.declared.lexer.Token.TheVariants as kinds
 use Rattle.po_text.specs.Spelling.{Token, Context, Id, Plural, Str, Number, Open, Close, Text}
 use Rattle.po_text.specs.Lexing.{token_view, IsLawfulToken}
-use Rattle.po_text.specs.Places.{Place, ContextWord, ContextText, IdWord, IdText, FormWord}
-use Rattle.po_text.specs.Places.{FormText, PluralWord, PluralText, IndexOpen, IndexNumber, IndexClose}
-use Rattle.po_text.specs.Places.{IndexedWord, IndexedText, step, key_text, place_view}
+use Rattle.po_text.specs.Stages.{Stage, ContextWord, ContextText, IdWord, IdText, FormWord}
+use Rattle.po_text.specs.Stages.{FormText, PluralWord, PluralText, IndexOpen, IndexNumber, IndexClose}
+use Rattle.po_text.specs.Stages.{IndexedWord, IndexedText, step, key_text, stage_view}
 use Rattle.po_text.specs.Building.{Draft, put, put_text, opens, opens_id}
 use Rattle.po_text.specs.Buffers.{HasForm, CanAddText, CanAdd}
 use Rattle.po_text.specs.Parsing.{is_opening}
@@ -21,55 +21,55 @@ use Rattle.po_text.proofs.Taking.{opens_to}
 
 -- ---- what may be added
 
-key_free : (bytes : List ℕ) (p q : Place) → key_text bytes p ≡ Some q → ¬ Contains bytes 4
+key_free : (bytes : List ℕ) (p q : Stage) → key_text bytes p ≡ Some q → ¬ Contains bytes 4
 key_free bytes p q e m = let four = four_from bytes m in let none : key_text bytes p
     ≡ None = rw four refl in absurd (cc (e, none))
 
-text_can : (p : code.Place) (n k : ℕ) (bytes : List ℕ) (q : Place) (d : Draft) → step (place_view p n) (Text bytes)
-    ≡ Some q → HasForm (place_view p n) d → CanAddText (place_view p k) bytes d
+text_can : (p : code.Stage) (n k : ℕ) (bytes : List ℕ) (q : Stage) (d : Draft) → step (stage_view p n) (Text bytes)
+    ≡ Some q → HasForm (stage_view p n) d → CanAddText (stage_view p k) bytes d
 unfolding step
-text_can places.Start n k bytes q d e h = absurd (cc e)
-text_can places.ContextWord n k bytes q d e h = key_free bytes ContextText q e
-text_can places.ContextText n k bytes q d e h = key_free bytes ContextText q e
-text_can places.IdWord n k bytes q d e h = key_free bytes IdText q e
-text_can places.IdText n k bytes q d e h = key_free bytes IdText q e
-text_can places.FormWord n k bytes q d e h = h
-text_can places.FormText n k bytes q d e h = h
-text_can places.PluralWord n k bytes q d e h = tt
-text_can places.PluralText n k bytes q d e h = tt
-text_can places.IndexOpen n k bytes q d e h = absurd (cc e)
-text_can places.IndexNumber n k bytes q d e h = absurd (cc e)
-text_can places.IndexClose n k bytes q d e h = absurd (cc e)
-text_can places.IndexedWord n k bytes q d e h = h
-text_can places.IndexedText n k bytes q d e h = h
+text_can stages.Start n k bytes q d e h = absurd (cc e)
+text_can stages.ContextWord n k bytes q d e h = key_free bytes ContextText q e
+text_can stages.ContextText n k bytes q d e h = key_free bytes ContextText q e
+text_can stages.IdWord n k bytes q d e h = key_free bytes IdText q e
+text_can stages.IdText n k bytes q d e h = key_free bytes IdText q e
+text_can stages.FormWord n k bytes q d e h = h
+text_can stages.FormText n k bytes q d e h = h
+text_can stages.PluralWord n k bytes q d e h = tt
+text_can stages.PluralText n k bytes q d e h = tt
+text_can stages.IndexOpen n k bytes q d e h = absurd (cc e)
+text_can stages.IndexNumber n k bytes q d e h = absurd (cc e)
+text_can stages.IndexClose n k bytes q d e h = absurd (cc e)
+text_can stages.IndexedWord n k bytes q d e h = h
+text_can stages.IndexedText n k bytes q d e h = h
 
 -- a token that is allowed here may be added
-pub can_add : (p : code.Place) (n k : ℕ) (t : code_token.Token) (bytes : List ℕ) (q : Place) (d : Draft)
-    → step (place_view p n) (token_view t bytes) ≡ Some q → IsLawfulToken (token_view t bytes)
-    → HasForm (place_view p n) d → CanAdd (token_view t bytes) (place_view p k) d
+pub can_add : (p : code.Stage) (n k : ℕ) (t : code_token.Token) (bytes : List ℕ) (q : Stage) (d : Draft)
+    → step (stage_view p n) (token_view t bytes) ≡ Some q → IsLawfulToken (token_view t bytes)
+    → HasForm (stage_view p n) d → CanAdd (token_view t bytes) (stage_view p k) d
 can_add p n k kinds.Text bytes q d e l h = (l, text_can p n k bytes q d e h)
 can_add p n k _ bytes q d e l h = tt
 
 -- ---- a form stays begun
 
-form_to : (d : Draft) (r q : Place) → Some r ≡ Some q → HasForm r d → HasForm q d
-form_to d r q e h = let same : r ≡ q = cc e in subst (λ (x : Place). HasForm x d) same h
+form_to : (d : Draft) (r q : Stage) → Some r ≡ Some q → HasForm r d → HasForm q d
+form_to d r q e h = let same : r ≡ q = cc e in subst (λ (x : Stage). HasForm x d) same h
 
 snoc_some : (xs : List ℕ) (x : ℕ) → xs ++ (x ∷ []) ≢ []
 snoc_some [] x e = absurd (cc e)
 snoc_some (y ∷ xs) x e = absurd (cc e)
 
-id_form : (line : ℕ) (p q : Place) (d : Draft) → step p Id ≡ Some q → opens_id p ≡ None → HasForm q (put Id line p d)
+id_form : (line : ℕ) (p q : Stage) (d : Draft) → step p Id ≡ Some q → opens_id p ≡ None → HasForm q (put Id line p d)
 unfolding step
 id_form line ContextText q d e o = form_to d IdWord q e tt
 id_form line p q d e o = absurd (cc o)
 
-plural_form : (line : ℕ) (p q : Place) (d : Draft) → step p Plural ≡ Some q → HasForm q (put Plural line p d)
+plural_form : (line : ℕ) (p q : Stage) (d : Draft) → step p Plural ≡ Some q → HasForm q (put Plural line p d)
 unfolding step
 plural_form line IdText q d e = form_to (put Plural line IdText d) PluralWord q e tt
 plural_form line p q d e = absurd (cc e)
 
-str_form : (line : ℕ) (p q : Place) (d : Draft) → step p Str ≡ Some q → HasForm q (put Str line p d)
+str_form : (line : ℕ) (p q : Stage) (d : Draft) → step p Str ≡ Some q → HasForm q (put Str line p d)
 unfolding step
 str_form line IdText q d e = form_to (put Str line IdText d) FormWord q e (snoc_some d.starts (length d.flat))
 str_form line PluralText q d e = form_to (put Str line PluralText d) (IndexOpen 0) q e
@@ -78,30 +78,30 @@ str_form line (IndexedText k) q d e = form_to (put Str line (IndexedText k) d) (
     (snoc_some d.starts (length d.flat))
 str_form line p q d e = absurd (cc e)
 
-chosen : (b : Bool) (r q : Place) → (if b then Some r else None) ≡ Some q → Some r ≡ Some q
+chosen : (b : Bool) (r q : Stage) → (if b then Some r else None) ≡ Some q → Some r ≡ Some q
 chosen true r q e = e
 chosen false r q e = absurd (cc e)
 
-number_form : (n : ℕ) (p q : Place) (d : Draft) → step p (Number n) ≡ Some q → HasForm p d
+number_form : (n : ℕ) (p q : Stage) (d : Draft) → step p (Number n) ≡ Some q → HasForm p d
     → HasForm q d
 unfolding step
 number_form n (IndexNumber k) q d e h = form_to d (IndexClose k) q (chosen (n == k) (IndexClose k) q e) h
 number_form n p q d e h = absurd (cc e)
 
-open_form : (p q : Place) (d : Draft) → step p Open ≡ Some q → HasForm p d → HasForm q d
+open_form : (p q : Stage) (d : Draft) → step p Open ≡ Some q → HasForm p d → HasForm q d
 unfolding step
 open_form (IndexOpen k) q d e h = form_to d (IndexNumber k) q e h
 open_form p q d e h = absurd (cc e)
 
-close_form : (p q : Place) (d : Draft) → step p Close ≡ Some q → HasForm p d → HasForm q d
+close_form : (p q : Stage) (d : Draft) → step p Close ≡ Some q → HasForm p d → HasForm q d
 unfolding step
 close_form (IndexClose k) q d e h = form_to d (IndexedWord k) q e h
 close_form p q d e h = absurd (cc e)
 
-key_form : (bytes : List ℕ) (r q : Place) (d : Draft) → key_text bytes r ≡ Some q → HasForm r d → HasForm q d
-key_form bytes r q d e h = subst (λ (x : Place). HasForm x d) (key_to bytes r q e) h
+key_form : (bytes : List ℕ) (r q : Stage) (d : Draft) → key_text bytes r ≡ Some q → HasForm r d → HasForm q d
+key_form bytes r q d e h = subst (λ (x : Stage). HasForm x d) (key_to bytes r q e) h
 
-text_form : (bytes : List ℕ) (p q : Place) (d : Draft) → step p (Text bytes) ≡ Some q → HasForm p d
+text_form : (bytes : List ℕ) (p q : Stage) (d : Draft) → step p (Text bytes) ≡ Some q → HasForm p d
     → HasForm q (put_text p bytes d)
 unfolding step
 text_form bytes ContextWord q d e h = key_form bytes ContextText q (put_text ContextWord bytes d) e tt
@@ -116,8 +116,8 @@ text_form bytes (IndexedWord k) q d e h = form_to (put_text (IndexedWord k) byte
 text_form bytes (IndexedText k) q d e h = form_to (put_text (IndexedText k) bytes d) (IndexedText k) q e h
 text_form bytes p q d e h = absurd (cc e)
 
--- a token that opens no entry leads to a place where a form was begun, if it should be
-pub put_form : (line : ℕ) (p : Place) (t : Token) (q : Place) (d : Draft) → step p t ≡ Some q → opens t p ≡ None
+-- a token that opens no entry leads to a stage where a form was begun, if it should be
+pub put_form : (line : ℕ) (p : Stage) (t : Token) (q : Stage) (d : Draft) → step p t ≡ Some q → opens t p ≡ None
     → HasForm p d → HasForm q (put t line p d)
 put_form line p Context q d e o h = absurd (cc o)
 put_form line p Id q d e o h = id_form line p q d e o
@@ -130,21 +130,21 @@ put_form line p (Text bytes) q d e o h = text_form bytes p q d e h
 
 -- ---- where an entry opens
 
-opening_at : (q : code.Place) (n : ℕ) → (place_view q n ≡ ContextWord) ⊎ (place_view q n ≡ IdWord) → is_opening q ≡ true
-opening_at places.ContextWord n e = refl
-opening_at places.IdWord n e = refl
-opening_at places.Start n e = refl
+opening_at : (q : code.Stage) (n : ℕ) → (stage_view q n ≡ ContextWord) ⊎ (stage_view q n ≡ IdWord) → is_opening q ≡ true
+opening_at stages.ContextWord n e = refl
+opening_at stages.IdWord n e = refl
+opening_at stages.Start n e = refl
 opening_at _ n e = elim e [ inl c ↦ absurd (cc c) | inr i ↦ absurd (cc i) ]
 
 -- a token that opens an entry leads to its keyword
-pub opens_opening : (p : Place) (t : Token) (q : code.Place) (n : ℕ) (c : Option (List ℕ)) → step p t
-    ≡ Some (place_view q n) → opens t p ≡ Some c → is_opening q ≡ true
-opens_opening p t q n c e f = elim (opens_to p t (place_view q n) c e f).1
+pub opens_opening : (p : Stage) (t : Token) (q : code.Stage) (n : ℕ) (c : Option (List ℕ)) → step p t
+    ≡ Some (stage_view q n) → opens t p ≡ Some c → is_opening q ≡ true
+opens_opening p t q n c e f = elim (opens_to p t (stage_view q n) c e f).1
     [ inl h ↦ opening_at q n (inl h.0) | inr h ↦ opening_at q n (inr h.0) ]
 
 -- there no form needs to be
-pub opening_form : (q : code.Place) (n : ℕ) (d : Draft) → is_opening q ≡ true → HasForm (place_view q n) d
-opening_form places.Start n d e = tt
-opening_form places.ContextWord n d e = tt
-opening_form places.IdWord n d e = tt
+pub opening_form : (q : code.Stage) (n : ℕ) (d : Draft) → is_opening q ≡ true → HasForm (stage_view q n) d
+opening_form stages.Start n d e = tt
+opening_form stages.ContextWord n d e = tt
+opening_form stages.IdWord n d e = tt
 opening_form _ n d e = absurd (cc e)

@@ -8,9 +8,9 @@ use Rattle.std.proofs.lemmas.Bool.{cases_Bool, cases_eq, ne_eqb, eq-eqb}
 use Rattle.po_text.specs.Spelling.{Token, Context, Id, Plural, Str, Number, Open, Close, Text}
 use Rattle.po_text.specs.Entries.{Strings, Part, PlainPart, PluralPart, Derivation, texts, form_tokens}
 use Rattle.po_text.specs.Entries.{part_tokens, tokens_of, IsOneOrMore, IsKeyText, IsLawfulPart, IsLawfulEntry}
-use Rattle.po_text.specs.Places.{Place, Start, ContextWord, ContextText, IdWord, IdText, FormWord}
-use Rattle.po_text.specs.Places.{FormText, PluralWord, PluralText, IndexOpen, IndexNumber, IndexClose, IndexedWord}
-use Rattle.po_text.specs.Places.{IndexedText, IsBoundary, step, has_four, key_text}
+use Rattle.po_text.specs.Stages.{Stage, Start, ContextWord, ContextText, IdWord, IdText, FormWord}
+use Rattle.po_text.specs.Stages.{FormText, PluralWord, PluralText, IndexOpen, IndexNumber, IndexClose, IndexedWord}
+use Rattle.po_text.specs.Stages.{IndexedText, IsBoundary, step, has_four, key_text}
 use Rattle.po_text.proofs.Grammar.{run, run-none}
 
 abbrev pub NoFour : Strings → Type 0
@@ -24,8 +24,8 @@ abbrev Forms : ℕ → List Token → Strings → Type 0
 Forms k ts form = (forms : List Strings) × (later : List Token) × AllByRecursion IsOneOrMore forms × Derived later
     × (ts ≡ texts form ++ (form_tokens (k + 1) forms ++ later))
 
--- the tokens that are left at a place
-abbrev Left : Place → List Token → Type 0
+-- the tokens that are left at a stage
+abbrev Left : Stage → List Token → Type 0
 Left Start ts = Derived ts
 Left ContextWord ts = (parts : Strings) × (id : Strings) × (part : Part) × (later : List Token) × IsKeyText parts
     × IsKeyText id × IsLawfulPart part × Derived later × (ts ≡ texts parts
@@ -73,7 +73,7 @@ no_four_cons b parts first rest m = elim (Contains-append_cases b (concat parts)
   | inr there ↦ rest there
 ]
 
-dead : (ts : List Token) (q : Place) → run None ts ≡ Some q → ⊥
+dead : (ts : List Token) (q : Stage) → run None ts ≡ Some q → ⊥
 dead ts q e = let f = run-none ts in absurd (cc (e, f))
 
 -- an entry before others
@@ -98,24 +98,24 @@ context_entry parts id part later ts context key lawful (ds, all, is) e = (
       ∙ sym (append_assoc (texts parts) (Id ∷ (texts id ++ part_tokens part)) (flat_map tokens_of ds)))),
 )
 
-left_end : (p q : Place) → Some p ≡ Some q → IsBoundary q → Left p []
-left_end p q e b = go_end p (let same : p ≡ q = cc e in subst (λ (x : Place). IsBoundary x) (sym same) b)
+left_end : (p q : Stage) → Some p ≡ Some q → IsBoundary q → Left p []
+left_end p q e b = go_end p (let same : p ≡ q = cc e in subst (λ (x : Stage). IsBoundary x) (sym same) b)
   where
-    go_end : (p : Place) → IsBoundary p → Left p []
+    go_end : (p : Stage) → IsBoundary p → Left p []
     go_end Start b = ([], tt, refl)
     go_end FormText b = ([], [], ([], tt, refl), refl)
     go_end (IndexedText k) b = ([], ([], [], tt, ([], tt, refl), refl))
     go_end _ b = absurd b
 
 -- after a step by a string of a context or msgid, which had no byte 4
-key_was : (bytes : List ℕ) (p q : Place) (ts : List Token) → run (key_text bytes p) ts ≡ Some q
+key_was : (bytes : List ℕ) (p q : Stage) (ts : List Token) → run (key_text bytes p) ts ≡ Some q
     → (has_four bytes ≡ false) × (run (Some p) ts ≡ Some q)
 key_was bytes p q ts e = elim (cases_Bool (has_four bytes)) [
   | inl four ↦ let f : run (key_text bytes p) ts ≡ run None ts = rw four refl in absurd (dead ts q (sym f ∙ e))
   | inr none ↦ let f : run (key_text bytes p) ts ≡ run (Some p) ts = rw none refl in (none, sym f ∙ e)
 ]
 
-index_was : (n k : ℕ) (q : Place) (ts : List Token) → run (step (IndexNumber k) (Number n)) ts ≡ Some q → (n ≡ k)
+index_was : (n k : ℕ) (q : Stage) (ts : List Token) → run (step (IndexNumber k) (Number n)) ts ≡ Some q → (n ≡ k)
     × (run (Some (IndexClose k)) ts ≡ Some q)
 unfolding step
 index_was n k q ts e = elim (cases_eq n k) [
@@ -136,7 +136,7 @@ opens_context ts (parts, id, part, later, context, key, lawful, rest, e) = conte
 put : (t : Token) {ts us : List Token} → ts ≡ us → t ∷ ts ≡ t ∷ us
 put t e = ap (λ (x : List Token). t ∷ x) e
 
-pub left : (ts : List Token) (p q : Place) → run (Some p) ts ≡ Some q → IsBoundary q → Left p ts
+pub left : (ts : List Token) (p q : Stage) → run (Some p) ts ≡ Some q → IsBoundary q → Left p ts
 unfolding step
 left [] p q e b = left_end p q e b
 left (Context ∷ ts) Start q e b = opens_context ts (left ts ContextWord q e b)
@@ -252,5 +252,5 @@ left (Id ∷ ts) (IndexedText k) q e b = ([], ([], Id ∷ ts, tt, opens_id ts (l
 left (t ∷ ts) p q e b = absurd (dead ts q e)
 
 -- a list that the parser takes to the end of an entry consists of entries
-pub derived : (ts : List Token) (q : Place) → run (Some Start) ts ≡ Some q → IsBoundary q → Derived ts
+pub derived : (ts : List Token) (q : Stage) → run (Some Start) ts ≡ Some q → IsBoundary q → Derived ts
 derived ts q e b = left ts Start q e b

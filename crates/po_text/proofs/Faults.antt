@@ -10,24 +10,24 @@ use Rattle.std.proofs.lemmas.Map.Views.{Contains-from_any}
 use Rattle.po_text.specs.declared.fault.PoKind.TheVariants.{BadOrder}
 use Rattle.po_text.specs.Spelling.{Token, Context, Id, Plural, Str, Number, Open, Close, Text, Mark, Lexeme}
 use Rattle.po_text.specs.Entries.{Strings, texts, all_tokens, IsOpenList, IsKeyword}
-use Rattle.po_text.specs.Entries.{PutsFour, IsIndexPlace, ClosesBy, ClosesAt, EndsEarly}
-use Rattle.po_text.specs.Places.{Place, Start, ContextWord, ContextText, IdWord, IdText, FormWord}
-use Rattle.po_text.specs.Places.{FormText, PluralWord, PluralText, IndexOpen, IndexNumber, IndexClose, IndexedWord}
-use Rattle.po_text.specs.Places.{IndexedText, IsBoundary, step, has_four, key_text}
+use Rattle.po_text.specs.Entries.{PutsFour, IsIndexStage, ClosesBy, ClosesAt, EndsEarly}
+use Rattle.po_text.specs.Stages.{Stage, Start, ContextWord, ContextText, IdWord, IdText, FormWord}
+use Rattle.po_text.specs.Stages.{FormText, PluralWord, PluralText, IndexOpen, IndexNumber, IndexClose, IndexedWord}
+use Rattle.po_text.specs.Stages.{IndexedText, IsBoundary, step, has_four, key_text}
 use Rattle.po_text.specs.Building.{begin, no_flags, State, at_state, opens, opens_id, after, feed, feeds, start}
 use Rattle.po_text.specs.Parsing.{EndsOn, refusal, key_refusal, number_refusal}
 use Rattle.po_text.proofs.Grammar.{run, run-none, run-append, live_front, closes}
 use Rattle.po_text.proofs.OpenLists.{taken_open}
-use Rattle.po_text.proofs.Feeding.{feeds-none, feeds_place, chain_feeds}
+use Rattle.po_text.proofs.Feeding.{feeds-none, feeds_stage, chain_feeds}
 
--- ---- what precedes a place
+-- ---- what precedes a stage
 
 abbrev pub BehindKey : List Lexeme → ℕ → Type 0
 BehindKey before k = (front : List Lexeme) × (keyword : Lexeme) × (others : List Lexeme) × (parts : Strings)
     × (before ≡ front ++ (keyword ∷ others)) × IsKeyword keyword.token × (all_tokens others ≡ texts parts)
     × (k ≡ keyword.line)
 
-abbrev pub Behind : List Lexeme → Place → ℕ → Type 0
+abbrev pub Behind : List Lexeme → Stage → ℕ → Type 0
 Behind before ContextWord k = BehindKey before k
 Behind before ContextText k = BehindKey before k
 Behind before IdWord k = BehindKey before k
@@ -56,7 +56,7 @@ more_key before k l b f (front, keyword, others, parts, is, kw, tokens, line) = 
   line,
 )
 
-pub key_to : (b : List ℕ) (p q : Place) → key_text b p ≡ Some q → p ≡ q
+pub key_to : (b : List ℕ) (p q : Stage) → key_text b p ≡ Some q → p ≡ q
 key_to b p q e = elim (cases_Bool (has_four b)) [
   | inl four ↦ let f : key_text b p ≡ None = rw four refl in absurd (cc (e, f))
   | inr none ↦ let f : key_text b p ≡ Some p = rw none refl in cc (e, f)
@@ -65,39 +65,39 @@ key_to b p q e = elim (cases_Bool (has_four b)) [
 new_key : (before : List Lexeme) (l : Lexeme) → IsKeyword l.token → BehindKey (before ++ (l ∷ [])) l.line
 new_key before l kw = (before, l, [], [], refl, kw, refl, refl)
 
-text_behind : (before : List Lexeme) (p q : Place) (k : ℕ) (l : Lexeme) (b : List ℕ) → l.token ≡ Text b
+text_behind : (before : List Lexeme) (p q : Stage) (k : ℕ) (l : Lexeme) (b : List ℕ) → l.token ≡ Text b
     → step p (Text b) ≡ Some q → Behind before p k → Behind (before ++ (l ∷ [])) q k
 unfolding step
-text_behind before ContextWord q k l b f e h = subst (λ (x : Place). Behind (before ++ (l ∷ [])) x k)
+text_behind before ContextWord q k l b f e h = subst (λ (x : Stage). Behind (before ++ (l ∷ [])) x k)
     (key_to b ContextText q e) (more_key before k l b f h)
-text_behind before ContextText q k l b f e h = subst (λ (x : Place). Behind (before ++ (l ∷ [])) x k)
+text_behind before ContextText q k l b f e h = subst (λ (x : Stage). Behind (before ++ (l ∷ [])) x k)
     (key_to b ContextText q e) (more_key before k l b f h)
-text_behind before IdWord q k l b f e h = subst (λ (x : Place). Behind (before ++ (l ∷ [])) x k) (key_to b IdText q e)
+text_behind before IdWord q k l b f e h = subst (λ (x : Stage). Behind (before ++ (l ∷ [])) x k) (key_to b IdText q e)
     (more_key before k l b f h)
-text_behind before IdText q k l b f e h = subst (λ (x : Place). Behind (before ++ (l ∷ [])) x k) (key_to b IdText q e)
+text_behind before IdText q k l b f e h = subst (λ (x : Stage). Behind (before ++ (l ∷ [])) x k) (key_to b IdText q e)
     (more_key before k l b f h)
-text_behind before FormWord q k l b f e h = subst (λ (x : Place). Behind (before ++ (l ∷ [])) x k)
+text_behind before FormWord q k l b f e h = subst (λ (x : Stage). Behind (before ++ (l ∷ [])) x k)
     (let s : FormText ≡ q = cc e in s) tt
-text_behind before FormText q k l b f e h = subst (λ (x : Place). Behind (before ++ (l ∷ [])) x k)
+text_behind before FormText q k l b f e h = subst (λ (x : Stage). Behind (before ++ (l ∷ [])) x k)
     (let s : FormText ≡ q = cc e in s) tt
-text_behind before PluralWord q k l b f e h = subst (λ (x : Place). Behind (before ++ (l ∷ [])) x k)
+text_behind before PluralWord q k l b f e h = subst (λ (x : Stage). Behind (before ++ (l ∷ [])) x k)
     (let s : PluralText ≡ q = cc e in s) tt
-text_behind before PluralText q k l b f e h = subst (λ (x : Place). Behind (before ++ (l ∷ [])) x k)
+text_behind before PluralText q k l b f e h = subst (λ (x : Stage). Behind (before ++ (l ∷ [])) x k)
     (let s : PluralText ≡ q = cc e in s) tt
-text_behind before (IndexedWord n) q k l b f e h = subst (λ (x : Place). Behind (before ++ (l ∷ [])) x k)
+text_behind before (IndexedWord n) q k l b f e h = subst (λ (x : Stage). Behind (before ++ (l ∷ [])) x k)
     (let s : IndexedText n ≡ q = cc e in s) tt
-text_behind before (IndexedText n) q k l b f e h = subst (λ (x : Place). Behind (before ++ (l ∷ [])) x k)
+text_behind before (IndexedText n) q k l b f e h = subst (λ (x : Stage). Behind (before ++ (l ∷ [])) x k)
     (let s : IndexedText n ≡ q = cc e in s) tt
 text_behind before p q k l b f e h = absurd (cc e)
 
-context_to : (p q : Place) → step p Context ≡ Some q → q ≡ ContextWord
+context_to : (p q : Stage) → step p Context ≡ Some q → q ≡ ContextWord
 unfolding step
 context_to Start q e = sym (cc e)
 context_to FormText q e = sym (cc e)
 context_to (IndexedText k) q e = sym (cc e)
 context_to p q e = absurd (cc e)
 
-id_to : (p q : Place) → step p Id ≡ Some q → q ≡ IdWord
+id_to : (p q : Stage) → step p Id ≡ Some q → q ≡ IdWord
 unfolding step
 id_to Start q e = sym (cc e)
 id_to FormText q e = sym (cc e)
@@ -105,43 +105,43 @@ id_to (IndexedText k) q e = sym (cc e)
 id_to ContextText q e = sym (cc e)
 id_to p q e = absurd (cc e)
 
-open_to : (p q : Place) → step p Open ≡ Some q → (k : ℕ) × (q ≡ IndexNumber k)
+open_to : (p q : Stage) → step p Open ≡ Some q → (k : ℕ) × (q ≡ IndexNumber k)
 unfolding step
 open_to (IndexOpen k) q e = (k, sym (cc e))
 open_to p q e = absurd (cc e)
 
--- places about whose tokens nothing needs to be known
-abbrev Plain : Place → Type 0
+-- stages about whose tokens nothing needs to be known
+abbrev Plain : Stage → Type 0
 Plain p = (before : List Lexeme) (k : ℕ) → Behind before p k
 
-plain_from : (p q : Place) → p ≡ q → Plain p → Plain q
-plain_from p q e h = subst (λ (x : Place). Plain x) e h
+plain_from : (p q : Stage) → p ≡ q → Plain p → Plain q
+plain_from p q e h = subst (λ (x : Stage). Plain x) e h
 
-str_to : (p q : Place) → step p Str ≡ Some q → Plain q
+str_to : (p q : Stage) → step p Str ≡ Some q → Plain q
 unfolding step
 str_to IdText q e = plain_from FormWord q (cc e) (λ before k. tt)
 str_to PluralText q e = plain_from (IndexOpen 0) q (cc e) (λ before k. tt)
 str_to (IndexedText n) q e = plain_from (IndexOpen (n + 1)) q (cc e) (λ before k. tt)
 str_to p q e = absurd (cc e)
 
-plural_to : (p q : Place) → step p Plural ≡ Some q → Plain q
+plural_to : (p q : Stage) → step p Plural ≡ Some q → Plain q
 unfolding step
 plural_to IdText q e = plain_from PluralWord q (cc e) (λ before k. tt)
 plural_to p q e = absurd (cc e)
 
-close_to : (p q : Place) → step p Close ≡ Some q → Plain q
+close_to : (p q : Stage) → step p Close ≡ Some q → Plain q
 unfolding step
 close_to (IndexClose n) q e = plain_from (IndexedWord n) q (cc e) (λ before k. tt)
 close_to p q e = absurd (cc e)
 
-index_to : (n k : ℕ) (q : Place) → step (IndexNumber k) (Number n) ≡ Some q → IndexClose k ≡ q
+index_to : (n k : ℕ) (q : Stage) → step (IndexNumber k) (Number n) ≡ Some q → IndexClose k ≡ q
 unfolding step
 index_to n k q e = elim (cases_Bool (nat_eq n k)) [
   | inl same ↦ let f : step (IndexNumber k) (Number n) ≡ Some (IndexClose k) = rw same refl in cc (e, f)
   | inr other ↦ let f : step (IndexNumber k) (Number n) ≡ None = rw other refl in absurd (cc (e, f))
 ]
 
-number_to : (n : ℕ) (p q : Place) → step p (Number n) ≡ Some q → Plain q
+number_to : (n : ℕ) (p q : Stage) → step p (Number n) ≡ Some q → Plain q
 unfolding step
 number_to n (IndexNumber k) q e = plain_from (IndexClose k) q (index_to n k q e) (λ before k. tt)
 number_to n p q e = absurd (cc e)
@@ -152,30 +152,30 @@ line_after Context line k = line
 line_after Id line k = line
 line_after _ line k = k
 
-token_behind : (before : List Lexeme) (p q : Place) (k : ℕ) (l : Lexeme) (t : Token) → l.token ≡ t → step p t ≡ Some q
+token_behind : (before : List Lexeme) (p q : Stage) (k : ℕ) (l : Lexeme) (t : Token) → l.token ≡ t → step p t ≡ Some q
     → Behind before p k → Behind (before ++ (l ∷ [])) q (line_after t l.line k)
-token_behind before p q k l Context f e h = subst (λ (x : Place). Behind (before ++ (l ∷ [])) x l.line)
+token_behind before p q k l Context f e h = subst (λ (x : Stage). Behind (before ++ (l ∷ [])) x l.line)
     (sym (context_to p q e)) (new_key before l (inl f))
-token_behind before p q k l Id f e h = subst (λ (x : Place). Behind (before ++ (l ∷ [])) x l.line) (sym (id_to p q e))
+token_behind before p q k l Id f e h = subst (λ (x : Stage). Behind (before ++ (l ∷ [])) x l.line) (sym (id_to p q e))
     (new_key before l (inr f))
 token_behind before p q k l (Text b) f e h = text_behind before p q k l b f e h
-token_behind before p q k l Open f e h = let o = open_to p q e in subst (λ (x : Place). Behind (before ++ (l ∷ [])) x k)
+token_behind before p q k l Open f e h = let o = open_to p q e in subst (λ (x : Stage). Behind (before ++ (l ∷ [])) x k)
     (sym o.1) (before, l, refl, f)
 token_behind before p q k l Str f e h = str_to p q e (before ++ (l ∷ [])) k
 token_behind before p q k l Plural f e h = plural_to p q e (before ++ (l ∷ [])) k
 token_behind before p q k l Close f e h = close_to p q e (before ++ (l ∷ [])) k
 token_behind before p q k l (Number n) f e h = number_to n p q e (before ++ (l ∷ [])) k
 
-id_keyword : (o : Option (Option (List ℕ))) (s : State) (marks : List Mark) (line : ℕ) (q : Place)
-    → ((after o s marks line Id q).place ≡ q) × ((after o s marks line Id q).keyword ≡ line)
+id_keyword : (o : Option (Option (List ℕ))) (s : State) (marks : List Mark) (line : ℕ) (q : Stage)
+    → ((after o s marks line Id q).stage ≡ q) × ((after o s marks line Id q).keyword ≡ line)
 id_keyword None s marks line q = (refl, refl)
 id_keyword (Some c) s marks line q = (refl, refl)
 
-after_is : (s : State) (marks : List Mark) (line : ℕ) (t : Token) (q : Place)
-    → ((after (opens t s.place) s marks line t q).place ≡ q)
-    × ((after (opens t s.place) s marks line t q).keyword ≡ line_after t line s.keyword)
+after_is : (s : State) (marks : List Mark) (line : ℕ) (t : Token) (q : Stage)
+    → ((after (opens t s.stage) s marks line t q).stage ≡ q)
+    × ((after (opens t s.stage) s marks line t q).keyword ≡ line_after t line s.keyword)
 after_is s marks line Context q = (refl, refl)
-after_is s marks line Id q = id_keyword (opens_id s.place) s marks line q
+after_is s marks line Id q = id_keyword (opens_id s.stage) s marks line q
 after_is s marks line (Text b) q = (refl, refl)
 after_is s marks line Open q = (refl, refl)
 after_is s marks line Str q = (refl, refl)
@@ -183,103 +183,103 @@ after_is s marks line Plural q = (refl, refl)
 after_is s marks line Close q = (refl, refl)
 after_is s marks line (Number n) q = (refl, refl)
 
-some_after : (s : State) (marks : List Mark) (line : ℕ) (t : Token) (s' : State) (o : Option Place) → step s.place t ≡ o
-    → option_map (λ (p : Place). after (opens t s.place) s marks line t p) o ≡ Some s' → (q : Place)
-    × (step s.place t ≡ Some q) × (s'.place ≡ q) × (s'.keyword ≡ line_after t line s.keyword)
+some_after : (s : State) (marks : List Mark) (line : ℕ) (t : Token) (s' : State) (o : Option Stage) → step s.stage t ≡ o
+    → option_map (λ (p : Stage). after (opens t s.stage) s marks line t p) o ≡ Some s' → (q : Stage)
+    × (step s.stage t ≡ Some q) × (s'.stage ≡ q) × (s'.keyword ≡ line_after t line s.keyword)
 some_after s marks line t s' None is e = absurd (cc e)
 some_after s marks line t s' (Some q) is e =
-    let same : after (opens t s.place) s marks line t q ≡ s' = cc e in
+    let same : after (opens t s.stage) s marks line t q ≡ s' = cc e in
     let a = after_is s marks line t q in
-    (q, is, ap (λ (x : State). x.place) (sym same) ∙ a.0, ap (λ (x : State). x.keyword) (sym same) ∙ a.1)
+    (q, is, ap (λ (x : State). x.stage) (sym same) ∙ a.0, ap (λ (x : State). x.keyword) (sym same) ∙ a.1)
 
 feed_behind : (before : List Lexeme) (l : Lexeme) (s s' : State) → feed (Some s) l ≡ Some s'
-    → Behind before s.place s.keyword → Behind (before ++ (l ∷ [])) s'.place s'.keyword
+    → Behind before s.stage s.keyword → Behind (before ++ (l ∷ [])) s'.stage s'.keyword
 feed_behind before l s s' e h =
-    let (q, st, place, keyword) = some_after s l.marks l.line l.token s' (step s.place l.token) refl e in
-    subst (λ (x : Place). Behind (before ++ (l ∷ [])) x s'.keyword) (sym place)
+    let (q, st, stage, keyword) = some_after s l.marks l.line l.token s' (step s.stage l.token) refl e in
+    subst (λ (x : Stage). Behind (before ++ (l ∷ [])) x s'.keyword) (sym stage)
     (subst (λ (x : ℕ). Behind (before ++ (l ∷ [])) q x) (sym keyword)
-    (token_behind before s.place q s.keyword l l.token refl st h))
+    (token_behind before s.stage q s.keyword l l.token refl st h))
 
-feeds_behind : (ls before : List Lexeme) (s s' : State) → feeds (Some s) ls ≡ Some s' → Behind before s.place s.keyword
-    → Behind (before ++ ls) s'.place s'.keyword
+feeds_behind : (ls before : List Lexeme) (s s' : State) → feeds (Some s) ls ≡ Some s' → Behind before s.stage s.keyword
+    → Behind (before ++ ls) s'.stage s'.keyword
 feeds_behind [] before s s' e h =
     let same : s ≡ s' = cc e in
-    subst (λ (x : State). Behind (before ++ []) x.place x.keyword) same
-    (subst (λ (x : List Lexeme). Behind x s.place s.keyword) (sym (append-nil before)) h)
+    subst (λ (x : State). Behind (before ++ []) x.stage x.keyword) same
+    (subst (λ (x : List Lexeme). Behind x s.stage s.keyword) (sym (append-nil before)) h)
 feeds_behind (l ∷ ls) before s s' e h = next (λ (s2 : State) (g : feeds (Some s2) ls ≡ Some s')
-    (b : Behind (before ++ (l ∷ [])) s2.place s2.keyword). feeds_behind ls (before ++ (l ∷ [])) s2 s' g b)
+    (b : Behind (before ++ (l ∷ [])) s2.stage s2.keyword). feeds_behind ls (before ++ (l ∷ [])) s2 s' g b)
     (feed (Some s) l) refl e
   where
-    next : ((s2 : State) → feeds (Some s2) ls ≡ Some s' → Behind (before ++ (l ∷ [])) s2.place s2.keyword
-        → Behind ((before ++ (l ∷ [])) ++ ls) s'.place s'.keyword) → (o : Option State) → feed (Some s) l ≡ o
-        → feeds o ls ≡ Some s' → Behind (before ++ (l ∷ ls)) s'.place s'.keyword
+    next : ((s2 : State) → feeds (Some s2) ls ≡ Some s' → Behind (before ++ (l ∷ [])) s2.stage s2.keyword
+        → Behind ((before ++ (l ∷ [])) ++ ls) s'.stage s'.keyword) → (o : Option State) → feed (Some s) l ≡ o
+        → feeds o ls ≡ Some s' → Behind (before ++ (l ∷ ls)) s'.stage s'.keyword
     next again None is g = let dead = feeds-none ls in absurd (cc (dead, g))
-    next again (Some s2) is g = subst (λ (x : List Lexeme). Behind x s'.place s'.keyword)
+    next again (Some s2) is g = subst (λ (x : List Lexeme). Behind x s'.stage s'.keyword)
         (append_assoc before (l ∷ []) ls) (again s2 g (feed_behind before l s s2 is h))
 
-pub behind : (found : List Lexeme) (s : State) → feeds (Some start) found ≡ Some s → Behind found s.place s.keyword
+pub behind : (found : List Lexeme) (s : State) → feeds (Some start) found ≡ Some s → Behind found s.stage s.keyword
 behind found s e = feeds_behind found [] start s e tt
 
--- ---- places, recognized by the tokens before them
+-- ---- stages, recognized by the tokens before them
 
-abbrev pub IsKeyPlace : Place → Type 0
-IsKeyPlace ContextWord = Unit {0}
-IsKeyPlace ContextText = Unit {0}
-IsKeyPlace IdWord = Unit {0}
-IsKeyPlace IdText = Unit {0}
-IsKeyPlace _ = ⊥
+abbrev pub IsKeyStage : Stage → Type 0
+IsKeyStage ContextWord = Unit {0}
+IsKeyStage ContextText = Unit {0}
+IsKeyStage IdWord = Unit {0}
+IsKeyStage IdText = Unit {0}
+IsKeyStage _ = ⊥
 
-stays_key : (p : Place) (b : List ℕ) (o : Option Place) → IsKeyPlace p → step p (Text b) ≡ o → (o ≡ None)
-    ⊎ ((q : Place) × (o ≡ Some q) × IsKeyPlace q)
+stays_key : (p : Stage) (b : List ℕ) (o : Option Stage) → IsKeyStage p → step p (Text b) ≡ o → (o ≡ None)
+    ⊎ ((q : Stage) × (o ≡ Some q) × IsKeyStage q)
 unfolding step
 stays_key ContextWord b None h e = inl refl
 stays_key ContextText b None h e = inl refl
 stays_key IdWord b None h e = inl refl
 stays_key IdText b None h e = inl refl
-stays_key ContextWord b (Some q) h e = inr (q, refl, subst (λ (x : Place). IsKeyPlace x) (key_to b ContextText q e) tt)
-stays_key ContextText b (Some q) h e = inr (q, refl, subst (λ (x : Place). IsKeyPlace x) (key_to b ContextText q e) tt)
-stays_key IdWord b (Some q) h e = inr (q, refl, subst (λ (x : Place). IsKeyPlace x) (key_to b IdText q e) tt)
-stays_key IdText b (Some q) h e = inr (q, refl, subst (λ (x : Place). IsKeyPlace x) (key_to b IdText q e) tt)
+stays_key ContextWord b (Some q) h e = inr (q, refl, subst (λ (x : Stage). IsKeyStage x) (key_to b ContextText q e) tt)
+stays_key ContextText b (Some q) h e = inr (q, refl, subst (λ (x : Stage). IsKeyStage x) (key_to b ContextText q e) tt)
+stays_key IdWord b (Some q) h e = inr (q, refl, subst (λ (x : Stage). IsKeyStage x) (key_to b IdText q e) tt)
+stays_key IdText b (Some q) h e = inr (q, refl, subst (λ (x : Stage). IsKeyStage x) (key_to b IdText q e) tt)
 stays_key p b o h e = absurd h
 
-texts_key : (parts : Strings) (p q : Place) → IsKeyPlace p → run (Some p) (texts parts) ≡ Some q → IsKeyPlace q
-texts_key [] p q h e = let same : p ≡ q = cc e in subst (λ (x : Place). IsKeyPlace x) same h
-texts_key (b ∷ parts) p q h e = next (λ (r : Place) (g : IsKeyPlace r) (f : run (Some r) (texts parts) ≡ Some q).
+texts_key : (parts : Strings) (p q : Stage) → IsKeyStage p → run (Some p) (texts parts) ≡ Some q → IsKeyStage q
+texts_key [] p q h e = let same : p ≡ q = cc e in subst (λ (x : Stage). IsKeyStage x) same h
+texts_key (b ∷ parts) p q h e = next (λ (r : Stage) (g : IsKeyStage r) (f : run (Some r) (texts parts) ≡ Some q).
     texts_key parts r q g f) (stays_key p b (step p (Text b)) h refl)
   where
-    next : ((r : Place) → IsKeyPlace r → run (Some r) (texts parts) ≡ Some q → IsKeyPlace q)
-        → ((step p (Text b) ≡ None) ⊎ ((r : Place) × (step p (Text b) ≡ Some r) × IsKeyPlace r)) → IsKeyPlace q
-    next again (inl none) = let dead = run-none (texts parts) in let f = ap (λ (o : Option Place). run o (texts parts))
+    next : ((r : Stage) → IsKeyStage r → run (Some r) (texts parts) ≡ Some q → IsKeyStage q)
+        → ((step p (Text b) ≡ None) ⊎ ((r : Stage) × (step p (Text b) ≡ Some r) × IsKeyStage r)) → IsKeyStage q
+    next again (inl none) = let dead = run-none (texts parts) in let f = ap (λ (o : Option Stage). run o (texts parts))
         none in absurd (cc (e, f, dead))
-    next again (inr (r, is, key)) = again r key (sym (ap (λ (o : Option Place). run o (texts parts)) is) ∙ e)
+    next again (inr (r, is, key)) = again r key (sym (ap (λ (o : Option Stage). run o (texts parts)) is) ∙ e)
 
-keyword_key : (p q : Place) (t : Token) → IsKeyword t → step p t ≡ Some q → IsKeyPlace q
+keyword_key : (p q : Stage) (t : Token) → IsKeyword t → step p t ≡ Some q → IsKeyStage q
 keyword_key p q t (inl e) st = let f : step p Context ≡ Some q = subst (λ (x : Token). step p x ≡ Some q) e st in subst
-    (λ (x : Place). IsKeyPlace x) (sym (context_to p q f)) tt
+    (λ (x : Stage). IsKeyStage x) (sym (context_to p q f)) tt
 keyword_key p q t (inr e) st = let f : step p Id ≡ Some q = subst (λ (x : Token). step p x ≡ Some q) e st in subst
-    (λ (x : Place). IsKeyPlace x) (sym (id_to p q f)) tt
+    (λ (x : Stage). IsKeyStage x) (sym (id_to p q f)) tt
 
-some_step : (o : Option Place) (ts : List Token) (p : Place) → run o ts ≡ Some p → (q : Place) × (o ≡ Some q)
+some_step : (o : Option Stage) (ts : List Token) (p : Stage) → run o ts ≡ Some p → (q : Stage) × (o ≡ Some q)
 some_step None ts p e = let dead = run-none ts in absurd (cc (dead, e))
 some_step (Some q) ts p e = (q, refl)
 
-behind_keyword : (front : List Lexeme) (keyword : Lexeme) (others : List Lexeme) (parts : Strings) (p : Place)
+behind_keyword : (front : List Lexeme) (keyword : Lexeme) (others : List Lexeme) (parts : Strings) (p : Stage)
     → run (Some Start) (all_tokens (front ++ (keyword ∷ others))) ≡ Some p → IsKeyword keyword.token → all_tokens others
-    ≡ texts parts → IsKeyPlace p
+    ≡ texts parts → IsKeyStage p
 behind_keyword front keyword others parts p e kw is =
     let all : run (Some Start) (all_tokens front ++ (keyword.token ∷ all_tokens others))
     ≡ Some p = ap (λ (ts : List Token). run (Some Start) ts)
     (sym (map-append (λ (x : Lexeme). x.token) front (keyword ∷ others))) ∙ e in
     let (r, at) = live_front Start p (all_tokens front) (keyword.token ∷ all_tokens others) all in
     let rest : run (step r keyword.token) (all_tokens others)
-    ≡ Some p = ap (λ (o : Option Place). run o (keyword.token ∷ all_tokens others)) (sym at)
+    ≡ Some p = ap (λ (o : Option Stage). run o (keyword.token ∷ all_tokens others)) (sym at)
     ∙ sym (run-append (Some Start) (all_tokens front) (keyword.token ∷ all_tokens others)) ∙ all in
     let (q, st) = some_step (step r keyword.token) (all_tokens others) p rest in
     texts_key parts q p (keyword_key r q keyword.token kw st)
-    (ap (λ (ts : List Token). run (Some q) ts) (sym is) ∙ ap (λ (o : Option Place). run o (all_tokens others))
+    (ap (λ (ts : List Token). run (Some q) ts) (sym is) ∙ ap (λ (o : Option Stage). run o (all_tokens others))
     (sym st) ∙ rest)
 
-behind_bracket : (front : List Lexeme) (bracket : Lexeme) (p : Place)
+behind_bracket : (front : List Lexeme) (bracket : Lexeme) (p : Stage)
     → run (Some Start) (all_tokens (front ++ (bracket ∷ []))) ≡ Some p → bracket.token ≡ Open → (k : ℕ)
     × (p ≡ IndexNumber k)
 behind_bracket front bracket p e is =
@@ -287,19 +287,19 @@ behind_bracket front bracket p e is =
     ≡ Some p = ap (λ (ts : List Token). run (Some Start) ts)
     (sym (map-append (λ (x : Lexeme). x.token) front (bracket ∷ []))) ∙ e in
     let (r, at) = live_front Start p (all_tokens front) (bracket.token ∷ []) all in
-    let rest : step r bracket.token ≡ Some p = ap (λ (o : Option Place). run o (bracket.token ∷ [])) (sym at)
+    let rest : step r bracket.token ≡ Some p = ap (λ (o : Option Stage). run o (bracket.token ∷ [])) (sym at)
     ∙ sym (run-append (Some Start) (all_tokens front) (bracket.token ∷ [])) ∙ all in
     open_to r p (ap (λ (t : Token). step r t) (sym is) ∙ rest)
 
 -- ---- how a list closes
 
-four_there : (b : List ℕ) (p : Place) → key_text b p ≡ None → Contains b 4
+four_there : (b : List ℕ) (p : Stage) → key_text b p ≡ None → Contains b 4
 four_there b p e = elim (cases_Bool (has_four b)) [
   | inl four ↦ Contains-from_any (λ x y e. eqb-true x y e) 4 b four
   | inr none ↦ let f : key_text b p ≡ Some p = rw none refl in absurd (cc (e, f))
 ]
 
-puts_four : (before : List Lexeme) (x : Lexeme) (k : ℕ) (b : List ℕ) (p : Place) → BehindKey before k → x.token ≡ Text b
+puts_four : (before : List Lexeme) (x : Lexeme) (k : ℕ) (b : List ℕ) (p : Stage) → BehindKey before k → x.token ≡ Text b
     → key_text b p ≡ None → PutsFour before x k
 puts_four before x k b p (front, keyword, others, parts, is, kw, tokens, line) t e = record {
   front = front;
@@ -315,13 +315,13 @@ puts_four before x k b p (front, keyword, others, parts, is, kw, tokens, line) t
   line_is = line;
 }
 
-no_text : (before : List Lexeme) (x : Lexeme) (p : Place) → run (Some Start) (all_tokens before) ≡ Some p
-    → ¬ IsKeyPlace p → (n : ℕ) → ¬ PutsFour before x n
+no_text : (before : List Lexeme) (x : Lexeme) (p : Stage) → run (Some Start) (all_tokens before) ≡ Some p
+    → ¬ IsKeyStage p → (n : ℕ) → ¬ PutsFour before x n
 no_text before x p at other n h = other (behind_keyword h.front h.keyword h.others h.parts p
     (ap (λ (ls : List Lexeme). run (Some Start) (all_tokens ls)) (sym h.split) ∙ at) h.keyword_is h.others_are)
 
-no_index : (before : List Lexeme) (x : Lexeme) (p : Place) → run (Some Start) (all_tokens before) ≡ Some p
-    → ((k : ℕ) → p ≡ IndexNumber k → ⊥) → ¬ IsIndexPlace before x
+no_index : (before : List Lexeme) (x : Lexeme) (p : Stage) → run (Some Start) (all_tokens before) ≡ Some p
+    → ((k : ℕ) → p ≡ IndexNumber k → ⊥) → ¬ IsIndexStage before x
 no_index before x p at other h = let b = behind_bracket h.front h.bracket p
     (ap (λ (ls : List Lexeme). run (Some Start) (all_tokens ls)) (sym h.split) ∙ at) h.bracket_is in other b.0 b.1
 
@@ -329,15 +329,15 @@ other_order : (before : List Lexeme) (x : Lexeme) → ((b : List ℕ) → x.toke
     → ((n : ℕ) → x.token ≡ Number n → ⊥) → ClosesBy BadOrder before x x.line
 other_order before x text number = ((λ n h. text h.bytes h.text), (λ h. number h.number.0 h.number.1), refl)
 
-text_order : (before : List Lexeme) (x : Lexeme) (b : List ℕ) (p : Place) → run (Some Start) (all_tokens before)
-    ≡ Some p → ¬ IsKeyPlace p → x.token ≡ Text b → ClosesBy BadOrder before x x.line
+text_order : (before : List Lexeme) (x : Lexeme) (b : List ℕ) (p : Stage) → run (Some Start) (all_tokens before)
+    ≡ Some p → ¬ IsKeyStage p → x.token ≡ Text b → ClosesBy BadOrder before x x.line
 text_order before x b p at other t = (
   no_text before x p at other,
   (λ h. let f = h.number.1 in absurd (cc (t, f))),
   refl,
 )
 
-number_order : (before : List Lexeme) (x : Lexeme) (n : ℕ) (p : Place) → run (Some Start) (all_tokens before) ≡ Some p
+number_order : (before : List Lexeme) (x : Lexeme) (n : ℕ) (p : Stage) → run (Some Start) (all_tokens before) ≡ Some p
     → ((k : ℕ) → p ≡ IndexNumber k → ⊥) → x.token ≡ Number n → ClosesBy BadOrder before x x.line
 number_order before x n p at other t = (
   (λ m h. let f = h.text in absurd (cc (t, f))),
@@ -345,7 +345,7 @@ number_order before x n p at other t = (
   refl,
 )
 
-text_closes : (before : List Lexeme) (x : Lexeme) (b : List ℕ) (p : Place) (k : ℕ)
+text_closes : (before : List Lexeme) (x : Lexeme) (b : List ℕ) (p : Stage) (k : ℕ)
     → run (Some Start) (all_tokens before) ≡ Some p → Behind before p k → x.token ≡ Text b → step p (Text b) ≡ None
     → ClosesBy (key_refusal p x.line k).kind before x (key_refusal p x.line k).line
 unfolding step
@@ -364,7 +364,7 @@ text_closes before x b (IndexClose n) k at h t e = text_order before x b (IndexC
 text_closes before x b (IndexedWord n) k at h t e = absurd (cc e)
 text_closes before x b (IndexedText n) k at h t e = absurd (cc e)
 
-number_closes : (before : List Lexeme) (x : Lexeme) (m : ℕ) (p : Place) (k : ℕ) → run (Some Start) (all_tokens before)
+number_closes : (before : List Lexeme) (x : Lexeme) (m : ℕ) (p : Stage) (k : ℕ) → run (Some Start) (all_tokens before)
     ≡ Some p → Behind before p k → x.token ≡ Number m → ClosesBy (number_refusal p x.line).kind before x
     (number_refusal p x.line).line
 number_closes before x m (IndexNumber n) k at (front, bracket, is, open_is) t =
@@ -383,7 +383,7 @@ number_closes before x m (IndexClose n) k at h t = number_order before x m (Inde
 number_closes before x m (IndexedWord n) k at h t = number_order before x m (IndexedWord n) at (λ k e. absurd (cc e)) t
 number_closes before x m (IndexedText n) k at h t = number_order before x m (IndexedText n) at (λ k e. absurd (cc e)) t
 
-token_closes : (before : List Lexeme) (x : Lexeme) (t : Token) (p : Place) (k : ℕ)
+token_closes : (before : List Lexeme) (x : Lexeme) (t : Token) (p : Stage) (k : ℕ)
     → run (Some Start) (all_tokens before) ≡ Some p → Behind before p k → x.token ≡ t → step p t ≡ None
     → ClosesBy (refusal t p x.line k).kind before x (refusal t p x.line k).line
 token_closes before x (Text b) p k at h t e = text_closes before x b p k at h t e
@@ -398,37 +398,37 @@ token_closes before x Close p k at h t e = other_order before x (λ b f. absurd 
 
 -- a token that isn't allowed is the grammar fault
 pub refused_closes : (found more : List Lexeme) (x : Lexeme) (s : State) → feeds (Some start) found ≡ Some s
-    → step s.place x.token ≡ None
-    → ClosesAt (found ++ (x ∷ more)) (refusal x.token s.place x.line s.keyword).kind
-    (refusal x.token s.place x.line s.keyword).line
+    → step s.stage x.token ≡ None
+    → ClosesAt (found ++ (x ∷ more)) (refusal x.token s.stage x.line s.keyword).kind
+    (refusal x.token s.stage x.line s.keyword).line
 refused_closes found more x s fed refused =
-    let at = feeds_place found start s fed in
+    let at = feeds_stage found start s fed in
     record {
       before = found;
       x = x;
       after = more;
       split = refl;
-      open_before = taken_open (all_tokens found) s.place at;
-      closed = λ o. closes (all_tokens found) x.token s.place at refused
+      open_before = taken_open (all_tokens found) s.stage at;
+      closed = λ o. closes (all_tokens found) x.token s.stage at refused
           (subst (λ (ts : List Token). IsOpenList ts) (map-append (λ (l : Lexeme). l.token) found (x ∷ [])) o);
-      how = token_closes found x x.token s.place s.keyword at (behind found s fed) refl refused;
+      how = token_closes found x x.token s.stage s.keyword at (behind found s fed) refl refused;
     }
 
 -- the lexemes end in the middle of an entry
-pub ends_early : (found : List Lexeme) (s : State) (line : ℕ) → feeds (Some start) found ≡ Some s → ¬ IsBoundary s.place
+pub ends_early : (found : List Lexeme) (s : State) (line : ℕ) → feeds (Some start) found ≡ Some s → ¬ IsBoundary s.stage
     → EndsOn found line → EndsEarly found line
 ends_early found s line fed inside (inl none) =
     let fed' : Some start ≡ Some s = ap (λ (ls : List Lexeme). feeds (Some start) ls) (sym none) ∙ fed in
-    let same : start ≡ s = cc fed' in absurd (inside (subst (λ (x : State). IsBoundary x.place) same tt))
+    let same : start ≡ s = cc fed' in absurd (inside (subst (λ (x : State). IsBoundary x.stage) same tt))
 ends_early found s line fed inside (inr (before, x, split, at)) = record {
   before = before;
   x = x;
   split = split;
-  still_open = taken_open (all_tokens found) s.place (feeds_place found start s fed);
+  still_open = taken_open (all_tokens found) s.stage (feeds_stage found start s fed);
   underived = λ entries (later, chain).
       let (q, done, d, f, k, b, whole, end) = chain_feeds entries [] later found chain Start [] (begin 0 no_flags None)
       0 tt in
       let same : at_state q done d f k ≡ s = cc (end, fed) in
-      inside (subst (λ (x : State). IsBoundary x.place) same b);
+      inside (subst (λ (x : State). IsBoundary x.stage) same b);
   line_is = sym at;
 }

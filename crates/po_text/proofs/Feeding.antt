@@ -12,9 +12,9 @@ use Rattle.po_text.specs.Entries.{Strings, Part, PlainPart, PluralPart, Derivati
 use Rattle.po_text.specs.Entries.{context_tokens, form_tokens, part_tokens, tokens_of, IsOneOrMore, IsKeyText}
 use Rattle.po_text.specs.Entries.{IsLawfulContext, IsLawfulPart, IsLawfulEntry, Entry, joined_option, plural_of}
 use Rattle.po_text.specs.Entries.{forms_of, entry_of, EntryAt, Derives, all_tokens, first_form_line, is_form_word}
-use Rattle.po_text.specs.Places.{Place, Start, ContextWord, ContextText, IdWord, IdText, FormWord}
-use Rattle.po_text.specs.Places.{FormText, PluralWord, PluralText, IndexOpen, IndexNumber, IndexClose, IndexedWord}
-use Rattle.po_text.specs.Places.{IndexedText, IsBoundary, step, has_four, key_text}
+use Rattle.po_text.specs.Stages.{Stage, Start, ContextWord, ContextText, IdWord, IdText, FormWord}
+use Rattle.po_text.specs.Stages.{FormText, PluralWord, PluralText, IndexOpen, IndexNumber, IndexClose, IndexedWord}
+use Rattle.po_text.specs.Stages.{IndexedText, IsBoundary, step, has_four, key_text}
 use Rattle.po_text.specs.Building.{flags_over, no_flags, Draft, offsets, draft_of, begin, grown, add_context}
 use Rattle.po_text.specs.Building.{add_id, add_plural, add_form, new_plural, new_form, put_text, State, at_state}
 use Rattle.po_text.specs.Building.{drafts_at, opens, after, feed_at, feed, feeds, start}
@@ -73,8 +73,8 @@ split_tokens (l ∷ ls) (x ∷ xs) ys e =
 
 -- ---- strings
 
--- how strings are added at a place
-record Adds (p q : Place) (add : Draft → List ℕ → Draft) (Good : List ℕ → Type 0) : Type 0 where
+-- how strings are added at a stage
+record Adds (p q : Stage) (add : Draft → List ℕ → Draft) (Good : List ℕ → Type 0) : Type 0 where
   here : (b : List ℕ) → Good b → step p (Text b) ≡ Some q
   puts : (b : List ℕ) (d : Draft) → put_text p b d ≡ add d b
 
@@ -82,18 +82,18 @@ record IsAdder (add : Draft → List ℕ → Draft) : Type 0 where
   nil : (d : Draft) → add d [] ≡ d
   more : (d : Draft) (a b : List ℕ) → add (add d a) b ≡ add d (a ++ b)
 
-one_text : (p q : Place) (add : Draft → List ℕ → Draft) (Good : List ℕ → Type 0) → Adds p q add Good
+one_text : (p q : Stage) (add : Draft → List ℕ → Draft) (Good : List ℕ → Type 0) → Adds p q add Good
     → (l : Lexeme) (ls : List Lexeme) (b : List ℕ) (done : List Draft) (d : Draft) (f : Flags) (k : ℕ) → l.token
     ≡ Text b → Good b
     → feeds (Some (at_state p done d f k)) (l ∷ ls) ≡ feeds (Some (at_state q done (add d b) (flags_over f l.marks) k))
     ls
 one_text p q add Good a l ls b done d f k e good =
     token_feed (at_state p done d f k) (at_state q done (add d b) (flags_over f l.marks) k) l ls (Text b) e
-    (ap (λ (o : Option Place). option_map (λ (x : Place). at_state x done (put_text p b d) (flags_over f l.marks) k) o)
+    (ap (λ (o : Option Stage). option_map (λ (x : Stage). at_state x done (put_text p b d) (flags_over f l.marks) k) o)
     (a.here b good)
     ∙ ap (λ (x : Draft). Some (at_state q done x (flags_over f l.marks) k)) (a.puts b d))
 
-texts_feed : (p : Place) (add : Draft → List ℕ → Draft) (Good : List ℕ → Type 0) → Adds p p add Good → IsAdder add
+texts_feed : (p : Stage) (add : Draft → List ℕ → Draft) (Good : List ℕ → Type 0) → Adds p p add Good → IsAdder add
     → (ls : List Lexeme) (parts : Strings) (done : List Draft) (d : Draft) (f : Flags) (k : ℕ) → all_tokens ls
     ≡ texts parts → AllByRecursion Good parts
     → feeds (Some (at_state p done d f k)) ls ≡ Some (at_state p done (add d (concat parts)) (flags_through f ls) k)
@@ -107,7 +107,7 @@ texts_feed p add Good a adder (l ∷ ls) (b ∷ parts) done d f k e good =
     ∙ ap (λ (x : Draft). Some (at_state p done x (flags_through (flags_over f l.marks) ls) k))
     (adder.more d b (concat parts))
 
-some_feed : (p q : Place) (add : Draft → List ℕ → Draft) (Good : List ℕ → Type 0) → Adds p q add Good
+some_feed : (p q : Stage) (add : Draft → List ℕ → Draft) (Good : List ℕ → Type 0) → Adds p q add Good
     → Adds q q add Good → IsAdder add → (ls : List Lexeme) (parts : Strings) (done : List Draft) (d : Draft) (f : Flags)
     (k : ℕ) → all_tokens ls ≡ texts parts → IsOneOrMore parts → AllByRecursion Good parts
     → feeds (Some (at_state p done d f k)) ls ≡ Some (at_state q done (add d (concat parts)) (flags_through f ls) k)
@@ -239,7 +239,7 @@ form_adder = record {
   }) (append_assoc d.flat a b);
 }
 
-key_step : (b : List ℕ) (p : Place) → has_four b ≡ false → key_text b p ≡ Some p
+key_step : (b : List ℕ) (p : Stage) → has_four b ≡ false → key_text b p ≡ Some p
 key_step b p e = rw e refl
 
 adds_context_word : Adds ContextWord ContextText add_context NoFourIn
@@ -286,7 +286,7 @@ adds_indexed k = record { here = λ b e. refl; puts = λ b d. refl }
 
 -- at the end of an entry, with these entries before it and this one under way
 abbrev pub EndsAs : List Draft → Draft → Flags → Option State → Type 0
-EndsAs done d f o = (q : Place) × (k : ℕ) × IsBoundary q × ((e : List Draft) (x : Draft) → drafts_at q e x ≡ e
+EndsAs done d f o = (q : Stage) × (k : ℕ) × IsBoundary q × ((e : List Draft) (x : Draft) → drafts_at q e x ≡ e
     ++ (x ∷ [])) × (o ≡ Some (at_state q done d f k))
 
 ends_from : (done : List Draft) (d : Draft) (f : Flags) (o o' : Option State) → o ≡ o' → EndsAs done d f o'
@@ -308,7 +308,7 @@ index_feed k o n c ls done d f w eo en ec =
     (n ∷ c ∷ ls) Open eo refl
     ∙ token_feed (at_state (IndexNumber k) done d (flags_over f o.marks) w)
     (at_state (IndexClose k) done d (flags_over (flags_over f o.marks) n.marks) w) n (c ∷ ls) (Number k) en
-    (ap (λ (x : Option Place). option_map (λ (p : Place). at_state p done d (flags_over (flags_over f o.marks) n.marks)
+    (ap (λ (x : Option Stage). option_map (λ (p : Stage). at_state p done d (flags_over (flags_over f o.marks) n.marks)
     w) x) (number_step k))
     ∙ token_feed (at_state (IndexClose k) done d (flags_over (flags_over f o.marks) n.marks) w)
     (at_state (IndexedWord k) done d (flags_over (flags_over (flags_over f o.marks) n.marks) c.marks) w) c ls Close
@@ -516,14 +516,14 @@ id_feed id part ls done line flags context f w e key lawful =
 
 -- ---- whole entries
 
-opening_id : (p : Place) → IsBoundary p → (step p Id ≡ Some IdWord) × (opens Id p ≡ Some None)
+opening_id : (p : Stage) → IsBoundary p → (step p Id ≡ Some IdWord) × (opens Id p ≡ Some None)
 unfolding step
 opening_id Start h = (refl, refl)
 opening_id FormText h = (refl, refl)
 opening_id (IndexedText k) h = (refl, refl)
 opening_id _ h = absurd h
 
-opening_context : (p : Place) → IsBoundary p → step p Context ≡ Some ContextWord
+opening_context : (p : Stage) → IsBoundary p → step p Context ≡ Some ContextWord
 unfolding step
 opening_context Start h = refl
 opening_context FormText h = refl
@@ -531,20 +531,20 @@ opening_context (IndexedText k) h = refl
 opening_context _ h = absurd h
 
 -- the keyword that opens an entry
-open_with_id : (p : Place) (done : List Draft) (d : Draft) (f : Flags) (k : ℕ) (marks : List Mark) (line : ℕ)
+open_with_id : (p : Stage) (done : List Draft) (d : Draft) (f : Flags) (k : ℕ) (marks : List Mark) (line : ℕ)
     → IsBoundary p → feed_at (at_state p done d f k) marks line Id
     ≡ Some (at_state IdWord (drafts_at p done d) (begin line (flags_over f marks) None) no_flags line)
 open_with_id p done d f k marks line b =
     let h = opening_id p b in
-    ap (λ (o : Option Place). option_map (λ (x : Place). after (opens Id p) (at_state p done d f k) marks line Id x) o)
+    ap (λ (o : Option Stage). option_map (λ (x : Stage). after (opens Id p) (at_state p done d f k) marks line Id x) o)
     h.0
     ∙ ap (λ (c : Option (Option (List ℕ))). Some (after c (at_state p done d f k) marks line Id IdWord)) h.1
 
-open_with_context : (p : Place) (done : List Draft) (d : Draft) (f : Flags) (k : ℕ) (marks : List Mark) (line : ℕ)
+open_with_context : (p : Stage) (done : List Draft) (d : Draft) (f : Flags) (k : ℕ) (marks : List Mark) (line : ℕ)
     → IsBoundary p → feed_at (at_state p done d f k) marks line Context
     ≡ Some (at_state ContextWord (drafts_at p done d) (begin line (flags_over f marks) (Some [])) no_flags line)
 open_with_context p done d f k marks line b =
-    ap (λ (o : Option Place). option_map (λ (x : Place). after (opens Context p) (at_state p done d f k) marks line
+    ap (λ (o : Option Stage). option_map (λ (x : Stage). after (opens Context p) (at_state p done d f k) marks line
     Context x) o) (opening_context p b)
 
 id_in_context : (done : List Draft) (d : Draft) (f : Flags) (k : ℕ) (marks : List Mark) (line : ℕ)
@@ -552,7 +552,7 @@ id_in_context : (done : List Draft) (d : Draft) (f : Flags) (k : ℕ) (marks : L
 unfolding step
 id_in_context done d f k marks line = refl
 
-entry_feed : (context : Option Strings) (id : Strings) (part : Part) (first : Lexeme) (others : List Lexeme) (p : Place)
+entry_feed : (context : Option Strings) (id : Strings) (part : Part) (first : Lexeme) (others : List Lexeme) (p : Stage)
     (done : List Draft) (d : Draft) (f : Flags) (k : ℕ)
     → all_tokens (first ∷ others) ≡ context_tokens context ++ (Id ∷ texts id ++ part_tokens part)
     → IsLawfulContext context → IsKeyText id → IsLawfulPart part → IsBoundary p
@@ -598,11 +598,11 @@ entry_feed (Some parts) id part first others p done d f k e lawful key part_lawf
 
 -- all entries
 abbrev pub EndsWith : List Draft → Option State → Type 0
-EndsWith all o = (q : Place) × (done : List Draft) × (d : Draft) × (f : Flags) × (k : ℕ) × IsBoundary q
+EndsWith all o = (q : Stage) × (done : List Draft) × (d : Draft) × (f : Flags) × (k : ℕ) × IsBoundary q
     × (drafts_at q done d ≡ all) × (o ≡ Some (at_state q done d f k))
 
 pub chain_feeds : (entries : List Entry) (marks later : List Mark) (found : List Lexeme)
-    → Chain EntryAt entries (marks, found) (later, []) → (p : Place) (done : List Draft) (d : Draft) (k : ℕ)
+    → Chain EntryAt entries (marks, found) (later, []) → (p : Stage) (done : List Draft) (d : Draft) (k : ℕ)
     → IsBoundary p
     → EndsWith (drafts_at p done d ++ map draft_of entries) (feeds
     (Some (at_state p done d (flags_over no_flags marks) k)) found)
@@ -689,40 +689,40 @@ chain_of (d ∷ ds) marks found all e =
       ),
     )
 
--- ---- the place of what was built
+-- ---- the stage of what was built
 
-pub feeds_place : (ls : List Lexeme) (s s' : State) → feeds (Some s) ls ≡ Some s' → run (Some s.place) (all_tokens ls)
-    ≡ Some s'.place
-feeds_place [] s s' e = let same : s ≡ s' = cc e in ap (λ (x : State). Some x.place) same
-feeds_place (l ∷ ls) s s' e = go_place (λ (s2 : State) (h : feeds (Some s2) ls ≡ Some s'). feeds_place ls s2 s' h)
-    (step s.place l.token) refl
+pub feeds_stage : (ls : List Lexeme) (s s' : State) → feeds (Some s) ls ≡ Some s' → run (Some s.stage) (all_tokens ls)
+    ≡ Some s'.stage
+feeds_stage [] s s' e = let same : s ≡ s' = cc e in ap (λ (x : State). Some x.stage) same
+feeds_stage (l ∷ ls) s s' e = go_stage (λ (s2 : State) (h : feeds (Some s2) ls ≡ Some s'). feeds_stage ls s2 s' h)
+    (step s.stage l.token) refl
   where
-    go_place : ((s2 : State) → feeds (Some s2) ls ≡ Some s' → run (Some s2.place) (all_tokens ls) ≡ Some s'.place)
-        → (o : Option Place) → step s.place l.token ≡ o → run (Some s.place) (all_tokens (l ∷ ls)) ≡ Some s'.place
-    go_place again None none =
-        let dead : feeds (Some s) (l ∷ ls) ≡ None = ap (λ (x : Option Place). feeds
-        (option_map (λ (p : Place). after (opens l.token s.place) s l.marks l.line l.token p) x) ls) none
+    go_stage : ((s2 : State) → feeds (Some s2) ls ≡ Some s' → run (Some s2.stage) (all_tokens ls) ≡ Some s'.stage)
+        → (o : Option Stage) → step s.stage l.token ≡ o → run (Some s.stage) (all_tokens (l ∷ ls)) ≡ Some s'.stage
+    go_stage again None none =
+        let dead : feeds (Some s) (l ∷ ls) ≡ None = ap (λ (x : Option Stage). feeds
+        (option_map (λ (p : Stage). after (opens l.token s.stage) s l.marks l.line l.token p) x) ls) none
         ∙ feeds-none ls in
         absurd (cc (dead, e))
-    go_place again (Some p) some =
-        let next : feeds (Some s) (l ∷ ls) ≡ feeds (Some (after (opens l.token s.place) s l.marks l.line l.token p)) ls
-        = ap (λ (x : Option Place). feeds (option_map (λ (y : Place). after (opens l.token s.place) s l.marks l.line
+    go_stage again (Some p) some =
+        let next : feeds (Some s) (l ∷ ls) ≡ feeds (Some (after (opens l.token s.stage) s l.marks l.line l.token p)) ls
+        = ap (λ (x : Option Stage). feeds (option_map (λ (y : Stage). after (opens l.token s.stage) s l.marks l.line
         l.token y) x) ls) some in
-        ap (λ (x : Option Place). run x (all_tokens ls)) some
-        ∙ ap (λ (x : Place). run (Some x) (all_tokens ls)) (sym (after_place (opens l.token s.place) p))
-        ∙ again (after (opens l.token s.place) s l.marks l.line l.token p) (sym next ∙ e)
+        ap (λ (x : Option Stage). run x (all_tokens ls)) some
+        ∙ ap (λ (x : Stage). run (Some x) (all_tokens ls)) (sym (after_stage (opens l.token s.stage) p))
+        ∙ again (after (opens l.token s.stage) s l.marks l.line l.token p) (sym next ∙ e)
       where
-        after_place : (c : Option (Option (List ℕ))) (p : Place) → (after c s l.marks l.line l.token p).place ≡ p
-        after_place None p = refl
-        after_place (Some context) p = refl
+        after_stage : (c : Option (Option (List ℕ))) (p : Stage) → (after c s l.marks l.line l.token p).stage ≡ p
+        after_stage None p = refl
+        after_stage (Some context) p = refl
 
 -- what was built up to the end of an entry is what the lexemes derive
-pub put_together : (found : List Lexeme) (s : State) → feeds (Some start) found ≡ Some s → IsBoundary s.place
-    → (entries : List Entry) × Derives found entries × (drafts_at s.place s.done s.draft ≡ map draft_of entries)
+pub put_together : (found : List Lexeme) (s : State) → feeds (Some start) found ≡ Some s → IsBoundary s.stage
+    → (entries : List Entry) × Derives found entries × (drafts_at s.stage s.done s.draft ≡ map draft_of entries)
 put_together found s e b =
-    let (ds, all, is) = derived (all_tokens found) s.place (feeds_place found start s e) b in
+    let (ds, all, is) = derived (all_tokens found) s.stage (feeds_stage found start s e) b in
     let (entries, later, chain) = chain_of ds [] found all is in
     let (q, done, d, f, k, b', whole, end) = chain_feeds entries [] later found chain Start [] (begin 0 no_flags None) 0
     tt in
     let same : s ≡ at_state q done d f k = cc (e, end) in
-    (entries, (later, chain), ap (λ (x : State). drafts_at x.place x.done x.draft) same ∙ whole)
+    (entries, (later, chain), ap (λ (x : State). drafts_at x.stage x.done x.draft) same ∙ whole)

@@ -6,8 +6,8 @@ use Rattle.std.proofs.Common.{◌∙◌, subst, inl, inr, arith, append_assoc, l
 use Rattle.std.specs.Prelude.{◌⊎◌, Result, Ok, Err, OnOk, is_ok, if◌then◌else◌, slice_get, slice_index}
 use Rattle.std.specs.List.{concat, Contains, AllByRecursion}
 use Rattle.std.specs.declared.alloc.AllocError.{AllocError}
-use Rattle.po_text.specs.declared.places.Place as code
-use Rattle.po_text.specs.declared.places.Place.TheVariants as places
+use Rattle.po_text.specs.declared.stages.Stage as code
+use Rattle.po_text.specs.declared.stages.Stage.TheVariants as stages
 use Rattle.std.proofs.lemmas.List.{append-nil}
 use Rattle.std.proofs.lemmas.List.Elements.{Contains-append_cases}
 use Rattle.std.proofs.Math.Seq.{take-append_seam, drop-append_seam}
@@ -17,7 +17,7 @@ use Rattle.po_text.specs.declared.buffer.Lines.{Lines}
 use Rattle.po_text.specs.Spelling.{IsLawful}
 use Rattle.po_text.specs.Entries.{Entry}
 use Rattle.po_text.specs.Lawful.{IsLawfulIf, HasNoFourIf, IsLawfulTexts}
-use Rattle.po_text.specs.Places.{Place, ContextWord, ContextText, IdWord, IdText, PluralWord, PluralText, place_view}
+use Rattle.po_text.specs.Stages.{Stage, ContextWord, ContextText, IdWord, IdText, PluralWord, PluralText, stage_view}
 use Rattle.po_text.specs.Building.{Draft, draft_of, offsets, first_or, grown, put_text, add_form, new_form, some_if}
 use Rattle.po_text.specs.Buffers.{cut_forms, entry_in, draft_in, IsWellBuilt, CanAddText}
 use Rattle.po_text.proofs.Drafts.{same_entry}
@@ -277,7 +277,7 @@ plural_added e bytes l h = (
   },
 )
 
-pub text_added : (p : Place) (e : Entry) (bytes : List ℕ) → IsLawful bytes → CanAddText p bytes (draft_of e)
+pub text_added : (p : Stage) (e : Entry) (bytes : List ℕ) → IsLawful bytes → CanAddText p bytes (draft_of e)
     → IsLawfulTexts e → Becomes (put_text p bytes (draft_of e))
 text_added ContextWord e bytes l can h = context_added e bytes l can h
 text_added ContextText e bytes l can h = context_added e bytes l can h
@@ -375,7 +375,7 @@ draft_of_view b e view h = h.laid_out ∙ ap draft_of view
 lawful_view : (b : Inside) (e : Entry) → entry_in b ≡ e → IsWellBuilt b → IsLawfulTexts e
 lawful_view b e view h = subst IsLawfulTexts view h.lawful
 
-pub text_kept : (ok : Bool) (p : Place) (old new : Inside) (e : Entry) (bytes : List ℕ) → entry_in old ≡ e
+pub text_kept : (ok : Bool) (p : Stage) (old new : Inside) (e : Entry) (bytes : List ℕ) → entry_in old ≡ e
     → IsWellBuilt old
     → IsLawful bytes → CanAddText p bytes (draft_of e) → Grows ok (draft_in new) (draft_in old)
     (put_text p bytes (draft_in old)) → IsWellBuilt new
@@ -384,7 +384,7 @@ text_kept true p old new e bytes view h l can is = kept_as new (put_text p bytes
 text_kept false p old new e bytes view h l can is = is_kept new e (is ∙ draft_of_view old e view h)
     (lawful_view old e view h)
 
-pub text_put : (r : Result (Unit {0}) AllocError) (p : Place) (old new : Inside) (e : Entry) (bytes : List ℕ)
+pub text_put : (r : Result (Unit {0}) AllocError) (p : Stage) (old new : Inside) (e : Entry) (bytes : List ℕ)
     → entry_in old ≡ e → IsWellBuilt old → IsWellBuilt new → Grows (is_ok r) (draft_in new) (draft_in old)
     (put_text p bytes (draft_in old)) → OnOk r (draft_of (entry_in new) ≡ put_text p bytes (draft_of e))
 text_put (Ok u) p old new e bytes view h h' is = draft_is new h' ∙ is
@@ -395,9 +395,9 @@ grown_if : (b : Bool) (old bytes : List ℕ) → some_if b (old ++ bytes) ≡ gr
 grown_if true old bytes = refl
 grown_if false old bytes = refl
 
--- each text of an entry, by the place before the string
-pub context_grows : (p : code.Place) (k : ℕ) (ok : Bool) (new bytes : List ℕ) (b : Inside) → (p ≡ places.ContextWord)
-    ⊎ (p ≡ places.ContextText) → new ≡ (if ok then b.context.items ++ bytes else b.context.items)
+-- each text of an entry, by the stage before the string
+pub context_grows : (p : code.Stage) (k : ℕ) (ok : Bool) (new bytes : List ℕ) (b : Inside) → (p ≡ stages.ContextWord)
+    ⊎ (p ≡ stages.ContextText) → new ≡ (if ok then b.context.items ++ bytes else b.context.items)
     → Grows ok (record {
       lines = b.lines;
       flags = b.flags;
@@ -408,7 +408,7 @@ pub context_grows : (p : code.Place) (k : ℕ) (ok : Bool) (new bytes : List ℕ
       flat = b.forms.items;
       starts = b.starts.items;
     }) (draft_in b)
-    (put_text (place_view p k) bytes (draft_in b))
+    (put_text (stage_view p k) bytes (draft_in b))
 context_grows p k ok new bytes b is e =
     let make : List ℕ → Draft = λ x. record {
       lines = b.lines;
@@ -433,14 +433,14 @@ context_grows p k ok new bytes b is e =
     })
     (grown_if b.has_context b.context.items bytes) in
     elim is [
-      | inl q ↦ grew ok new b.context.items bytes make (put_text (place_view p k) bytes (draft_in b))
-          (at ∙ ap (λ (x : code.Place). put_text (place_view x k) bytes (draft_in b)) (sym q)) e
-      | inr q ↦ grew ok new b.context.items bytes make (put_text (place_view p k) bytes (draft_in b))
-          (at ∙ ap (λ (x : code.Place). put_text (place_view x k) bytes (draft_in b)) (sym q)) e
+      | inl q ↦ grew ok new b.context.items bytes make (put_text (stage_view p k) bytes (draft_in b))
+          (at ∙ ap (λ (x : code.Stage). put_text (stage_view x k) bytes (draft_in b)) (sym q)) e
+      | inr q ↦ grew ok new b.context.items bytes make (put_text (stage_view p k) bytes (draft_in b))
+          (at ∙ ap (λ (x : code.Stage). put_text (stage_view x k) bytes (draft_in b)) (sym q)) e
     ]
 
-pub id_grows : (p : code.Place) (k : ℕ) (ok : Bool) (new bytes : List ℕ) (b : Inside) → (p ≡ places.IdWord)
-    ⊎ (p ≡ places.IdText) → new ≡ (if ok then b.id.items ++ bytes else b.id.items)
+pub id_grows : (p : code.Stage) (k : ℕ) (ok : Bool) (new bytes : List ℕ) (b : Inside) → (p ≡ stages.IdWord)
+    ⊎ (p ≡ stages.IdText) → new ≡ (if ok then b.id.items ++ bytes else b.id.items)
     → Grows ok (record {
       lines = b.lines;
       flags = b.flags;
@@ -450,7 +450,7 @@ pub id_grows : (p : code.Place) (k : ℕ) (ok : Bool) (new bytes : List ℕ) (b 
       flat = b.forms.items;
       starts = b.starts.items;
     }) (draft_in b)
-    (put_text (place_view p k) bytes (draft_in b))
+    (put_text (stage_view p k) bytes (draft_in b))
 id_grows p k ok new bytes b is e =
     let make : List ℕ → Draft = λ x. record {
       lines = b.lines;
@@ -464,14 +464,14 @@ id_grows p k ok new bytes b is e =
           b.starts.items;
     } in
     elim is [
-      | inl q ↦ grew ok new b.id.items bytes make (put_text (place_view p k) bytes (draft_in b))
-          (ap (λ (x : code.Place). put_text (place_view x k) bytes (draft_in b)) (sym q)) e
-      | inr q ↦ grew ok new b.id.items bytes make (put_text (place_view p k) bytes (draft_in b))
-          (ap (λ (x : code.Place). put_text (place_view x k) bytes (draft_in b)) (sym q)) e
+      | inl q ↦ grew ok new b.id.items bytes make (put_text (stage_view p k) bytes (draft_in b))
+          (ap (λ (x : code.Stage). put_text (stage_view x k) bytes (draft_in b)) (sym q)) e
+      | inr q ↦ grew ok new b.id.items bytes make (put_text (stage_view p k) bytes (draft_in b))
+          (ap (λ (x : code.Stage). put_text (stage_view x k) bytes (draft_in b)) (sym q)) e
     ]
 
-pub plural_grows : (p : code.Place) (k : ℕ) (ok : Bool) (new bytes : List ℕ) (b : Inside) → (p ≡ places.PluralWord)
-    ⊎ (p ≡ places.PluralText) → new ≡ (if ok then b.plural.items ++ bytes else b.plural.items)
+pub plural_grows : (p : code.Stage) (k : ℕ) (ok : Bool) (new bytes : List ℕ) (b : Inside) → (p ≡ stages.PluralWord)
+    ⊎ (p ≡ stages.PluralText) → new ≡ (if ok then b.plural.items ++ bytes else b.plural.items)
     → Grows ok (record {
       lines = b.lines;
       flags = b.flags;
@@ -482,7 +482,7 @@ pub plural_grows : (p : code.Place) (k : ℕ) (ok : Bool) (new bytes : List ℕ)
       flat = b.forms.items;
       starts = b.starts.items;
     }) (draft_in b)
-    (put_text (place_view p k) bytes (draft_in b))
+    (put_text (stage_view p k) bytes (draft_in b))
 plural_grows p k ok new bytes b is e =
     let make : List ℕ → Draft = λ x. record {
       lines = b.lines;
@@ -507,25 +507,25 @@ plural_grows p k ok new bytes b is e =
     })
     (grown_if b.has_plural b.plural.items bytes) in
     elim is [
-      | inl q ↦ grew ok new b.plural.items bytes make (put_text (place_view p k) bytes (draft_in b))
-          (at ∙ ap (λ (x : code.Place). put_text (place_view x k) bytes (draft_in b)) (sym q)) e
-      | inr q ↦ grew ok new b.plural.items bytes make (put_text (place_view p k) bytes (draft_in b))
-          (at ∙ ap (λ (x : code.Place). put_text (place_view x k) bytes (draft_in b)) (sym q)) e
+      | inl q ↦ grew ok new b.plural.items bytes make (put_text (stage_view p k) bytes (draft_in b))
+          (at ∙ ap (λ (x : code.Stage). put_text (stage_view x k) bytes (draft_in b)) (sym q)) e
+      | inr q ↦ grew ok new b.plural.items bytes make (put_text (stage_view p k) bytes (draft_in b))
+          (at ∙ ap (λ (x : code.Stage). put_text (stage_view x k) bytes (draft_in b)) (sym q)) e
     ]
 
-form_place : (p : code.Place) (k : ℕ) (bytes : List ℕ) (d : Draft) → p ≢ places.ContextWord → p ≢ places.ContextText
-    → p ≢ places.IdWord → p ≢ places.IdText → p ≢ places.PluralWord → p ≢ places.PluralText → add_form d bytes
-    ≡ put_text (place_view p k) bytes d
-form_place places.ContextWord k bytes d c c' i i' q q' = absurd (c refl)
-form_place places.ContextText k bytes d c c' i i' q q' = absurd (c' refl)
-form_place places.IdWord k bytes d c c' i i' q q' = absurd (i refl)
-form_place places.IdText k bytes d c c' i i' q q' = absurd (i' refl)
-form_place places.PluralWord k bytes d c c' i i' q q' = absurd (q refl)
-form_place places.PluralText k bytes d c c' i i' q q' = absurd (q' refl)
-form_place _ k bytes d c c' i i' q q' = refl
+form_stage : (p : code.Stage) (k : ℕ) (bytes : List ℕ) (d : Draft) → p ≢ stages.ContextWord → p ≢ stages.ContextText
+    → p ≢ stages.IdWord → p ≢ stages.IdText → p ≢ stages.PluralWord → p ≢ stages.PluralText → add_form d bytes
+    ≡ put_text (stage_view p k) bytes d
+form_stage stages.ContextWord k bytes d c c' i i' q q' = absurd (c refl)
+form_stage stages.ContextText k bytes d c c' i i' q q' = absurd (c' refl)
+form_stage stages.IdWord k bytes d c c' i i' q q' = absurd (i refl)
+form_stage stages.IdText k bytes d c c' i i' q q' = absurd (i' refl)
+form_stage stages.PluralWord k bytes d c c' i i' q q' = absurd (q refl)
+form_stage stages.PluralText k bytes d c c' i i' q q' = absurd (q' refl)
+form_stage _ k bytes d c c' i i' q q' = refl
 
-pub form_grows : (p : code.Place) (k : ℕ) (ok : Bool) (new bytes : List ℕ) (b : Inside) → p ≢ places.ContextWord
-    → p ≢ places.ContextText → p ≢ places.IdWord → p ≢ places.IdText → p ≢ places.PluralWord → p ≢ places.PluralText
+pub form_grows : (p : code.Stage) (k : ℕ) (ok : Bool) (new bytes : List ℕ) (b : Inside) → p ≢ stages.ContextWord
+    → p ≢ stages.ContextText → p ≢ stages.IdWord → p ≢ stages.IdText → p ≢ stages.PluralWord → p ≢ stages.PluralText
     → new ≡ (if ok then b.forms.items ++ bytes else b.forms.items)
     → Grows ok (record {
       lines = b.lines;
@@ -537,7 +537,7 @@ pub form_grows : (p : code.Place) (k : ℕ) (ok : Bool) (new bytes : List ℕ) (
       flat = new;
       starts = b.starts.items;
     }) (draft_in b)
-    (put_text (place_view p k) bytes (draft_in b))
+    (put_text (stage_view p k) bytes (draft_in b))
 form_grows p k ok new bytes b c c' i i' q q' e =
     let make : List ℕ → Draft = λ x. record {
       lines = b.lines;
@@ -550,8 +550,8 @@ form_grows p k ok new bytes b c c' i i' q q' e =
       starts =
           b.starts.items;
     } in
-    grew ok new b.forms.items bytes make (put_text (place_view p k) bytes (draft_in b))
-    (form_place p k bytes (draft_in b) c c' i i' q q') e
+    grew ok new b.forms.items bytes make (put_text (stage_view p k) bytes (draft_in b))
+    (form_stage p k bytes (draft_in b) c c' i i' q q') e
 
 pub form_kept : (lines : Lines) (b new : Inside) (e : Entry) → entry_in b ≡ e → IsWellBuilt b → draft_in new
     ≡ new_form lines (draft_in b) → IsWellBuilt new

@@ -176,10 +176,10 @@ no_both text found kind line p q =
     no_fault_at_end BadText (values, inner, stop, e, h, i) = absurd (cc e)
     no_fault_at_end _ h = absurd h
 
--- the place and the line of a lexical fault are unique
-pub one_place : (text : List ℕ) (kind kind' : PoKind) (line line' : ℕ) → (p : HasFault text kind line)
+-- the offset and the line of a lexical fault are unique
+pub one_offset : (text : List ℕ) (kind kind' : PoKind) (line line' : ℕ) → (p : HasFault text kind line)
     → (q : HasFault text kind' line') → (p.rest ≡ q.rest) × (line ≡ line')
-one_place text kind kind' line line' p q =
+one_offset text kind kind' line line' p q =
     let same = Chain-one PieceAt Piece-one p.pieces q.pieces text p.rest q.rest p.each q.each
     (fault_stops kind p.rest p.fault) (fault_stops kind' q.rest q.fault) in
     (same.1, p.line_is ∙ ap line_of same.0 ∙ sym q.line_is)
@@ -242,5 +242,5 @@ one_kind kind _ rest p q = absurd q
 pub HasFault-one : (text : List ℕ) (kind kind' : PoKind) (line line' : ℕ) → HasFault text kind line
     → HasFault text kind' line' → (kind ≡ kind') × (line ≡ line')
 HasFault-one text kind kind' line line' p q =
-    let at = one_place text kind kind' line line' p q in
+    let at = one_offset text kind kind' line line' p q in
     (one_kind kind kind' q.rest (subst (λ (t : List ℕ). FaultAt kind t) at.0 p.fault) q.fault, at.1)

@@ -1,4 +1,4 @@
--- A list of tokens that the parser takes is open: an entry can be completed from every place.
+-- A list of tokens that the parser takes is open: an entry can be completed from every stage.
 use Rattle.std.proofs.Common.{◌≡◌, ℕ, List, [], ◌∷◌, ◌++◌, Option, Some, None}
 use Rattle.std.proofs.Common.{refl, sym, ap, ◌∙◌, inl, inr, append_assoc, arith}
 use Rattle.std.specs.Prelude.{◌⊎◌}
@@ -6,9 +6,9 @@ use Rattle.std.specs.List.{flat_map, AllByRecursion, concat, Contains}
 use Rattle.std.proofs.lemmas.Bool.{eq-eqb}
 use Rattle.po_text.specs.Spelling.{Token, Id, Str, Number, Open, Close, Text}
 use Rattle.po_text.specs.Entries.{Derivation, PlainPart, tokens_of, IsLawfulEntry, IsOpenList}
-use Rattle.po_text.specs.Places.{Place, Start, ContextWord, ContextText, IdWord, IdText}
-use Rattle.po_text.specs.Places.{FormWord, FormText, PluralWord, PluralText, IndexOpen, IndexNumber}
-use Rattle.po_text.specs.Places.{IndexClose, IndexedWord, IndexedText, IsBoundary, step}
+use Rattle.po_text.specs.Stages.{Stage, Start, ContextWord, ContextText, IdWord, IdText}
+use Rattle.po_text.specs.Stages.{FormWord, FormText, PluralWord, PluralText, IndexOpen, IndexNumber}
+use Rattle.po_text.specs.Stages.{IndexClose, IndexedWord, IndexedText, IsBoundary, step}
 use Rattle.po_text.proofs.Grammar.{run, run-over, run-from}
 use Rattle.po_text.proofs.Completes.{derived}
 
@@ -22,7 +22,7 @@ abbrev id_end : List Token
 id_end = Text [] ∷ Str ∷ form_end
 
 -- tokens that complete the entry
-abbrev completion : Place → List Token
+abbrev completion : Stage → List Token
 completion Start = []
 completion ContextWord = Text [] ∷ Id ∷ id_end
 completion ContextText = Id ∷ id_end
@@ -38,8 +38,8 @@ completion (IndexClose k) = Close ∷ form_end
 completion (IndexedWord k) = form_end
 completion (IndexedText k) = []
 
-abbrev EndsWell : Option Place → Type 0
-EndsWell p = (r : Place) × IsBoundary r × (p ≡ Some r)
+abbrev EndsWell : Option Stage → Type 0
+EndsWell p = (r : Stage) × IsBoundary r × (p ≡ Some r)
 
 number_taken : (k : ℕ) → step (IndexNumber k) (Number k) ≡ Some (IndexClose k)
 unfolding step
@@ -50,7 +50,7 @@ unfolding step
 index_ends k = run-from (step (IndexNumber k) (Number k)) (Some (IndexClose k)) (Some (IndexedText k))
     (Close ∷ form_end) (number_taken k) refl
 
-completes : (p : Place) → EndsWell (run (Some p) (completion p))
+completes : (p : Stage) → EndsWell (run (Some p) (completion p))
 unfolding step
 completes Start = (Start, tt, refl)
 completes ContextWord = (FormText, tt, refl)
@@ -132,7 +132,7 @@ begins_open (d ∷ ds) xs ys all e = elim (two_cuts xs ys (tokens_of d) (flat_ma
 ]
 
 -- what the parser takes is open
-pub taken_open : (xs : List Token) (p : Place) → run (Some Start) xs ≡ Some p → IsOpenList xs
+pub taken_open : (xs : List Token) (p : Stage) → run (Some Start) xs ≡ Some p → IsOpenList xs
 taken_open xs p e =
     let end = completes p in
     let whole = derived (xs ++ completion p) end.0 (run-over (Some Start) (Some p) (Some end.0) xs (completion p) e

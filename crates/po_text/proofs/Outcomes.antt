@@ -8,12 +8,12 @@ use Rattle.po_text.specs.declared.fault.PoKind.TheVariants.{TooLarge, NotUtf8, B
 use Rattle.po_text.specs.declared.fault.PoKind.TheVariants.{BadText, BadOrder, BadIndex, Memory}
 use Rattle.po_text.specs.Spelling.{Token, Text, Lexeme}
 use Rattle.po_text.specs.Entries.{Entry, Derives, all_tokens, texts, IsOpenList}
-use Rattle.po_text.specs.Entries.{IsKeyword, ClosesAt, ClosesBy, PutsFour, IsIndexPlace}
-use Rattle.po_text.specs.Places.{Start}
+use Rattle.po_text.specs.Entries.{IsKeyword, ClosesAt, ClosesBy, PutsFour, IsIndexStage}
+use Rattle.po_text.specs.Stages.{Start}
 use Rattle.po_text.specs.Building.{begin, no_flags, State, at_state, drafts_at, start}
 use Rattle.po_text.specs.Outcome.{HasGrammarFault, Reads, IsFaulty, body, IsReadable, IsUndecodable, Gives, Refuses}
 use Rattle.po_text.proofs.Drafts.{drafts_one}
-use Rattle.po_text.proofs.Feeding.{chain_feeds, feeds_place}
+use Rattle.po_text.proofs.Feeding.{chain_feeds, feeds_stage}
 use Rattle.po_text.proofs.Grammar.{run, live_front, open_run}
 use Rattle.po_text.proofs.OpenLists.{taken_open, two_cuts}
 use Rattle.po_text.proofs.OneReading.{Spells-one}
@@ -29,14 +29,14 @@ derives_one found entries others (later, chain) (later', chain') =
     let (q', done', d', f', k', b', whole', end') = chain_feeds others [] later' found chain' Start []
     (begin 0 no_flags None) 0 tt in
     let same : at_state q done d f k ≡ at_state q' done' d' f' k' = cc (end, end') in
-    drafts_one entries others (sym whole ∙ ap (λ (s : State). drafts_at s.place s.done s.draft) same ∙ whole')
+    drafts_one entries others (sym whole ∙ ap (λ (s : State). drafts_at s.stage s.done s.draft) same ∙ whole')
 
 -- what derives entries is open
 derives_open : (found : List Lexeme) (entries : List Entry) → Derives found entries → IsOpenList (all_tokens found)
 derives_open found entries (later, chain) =
     let (q, done, d, f, k, b, whole, end) = chain_feeds entries [] later found chain Start [] (begin 0 no_flags None) 0
     tt in
-    taken_open (all_tokens found) q (feeds_place found start (at_state q done d f k) end)
+    taken_open (all_tokens found) q (feeds_stage found start (at_state q done d f k) end)
 
 -- the front of an open list is open
 front_open : (xs ys : List Lexeme) → IsOpenList (all_tokens (xs ++ ys)) → IsOpenList (all_tokens xs)
@@ -62,11 +62,11 @@ not_later : (before : List Lexeme) (x : Lexeme) (c : List Lexeme) (before' : Lis
 not_later before x c before' is o closed = closed (front_open (before ++ (x ∷ [])) c
     (subst (λ (ls : List Lexeme). IsOpenList (all_tokens ls)) (is ∙ sym (append_assoc before (x ∷ []) c)) o))
 
-same_place : (before before' : List Lexeme) (x x' : Lexeme) (after after' : List Lexeme) → before ++ (x ∷ after)
+same_index : (before before' : List Lexeme) (x x' : Lexeme) (after after' : List Lexeme) → before ++ (x ∷ after)
     ≡ before' ++ (x' ∷ after') → IsOpenList (all_tokens before) → IsOpenList (all_tokens before')
     → ¬ IsOpenList (all_tokens (before ++ (x ∷ []))) → ¬ IsOpenList (all_tokens (before' ++ (x' ∷ [])))
     → (before ≡ before') × (x ≡ x')
-same_place before before' x x' after after' e o o' c c' = elim (two_cuts before (x ∷ after) before' (x' ∷ after') e) [
+same_index before before' x x' after after' e o o' c c' = elim (two_cuts before (x ∷ after) before' (x' ∷ after') e) [
   | inl (mid, is) ↦ later mid is
   | inr (mid, is, rest) ↦ earlier mid is rest
 ]
@@ -131,7 +131,7 @@ four_line before x m n p q = p.line_is ∙ ap (λ (l : Lexeme). l.line)
     (one_keyword p.front q.front p.keyword q.keyword p.others q.others p.parts q.parts (sym p.split ∙ q.split)
     p.keyword_is q.keyword_is p.others_are q.others_are) ∙ sym q.line_is
 
-four_no_index : (before : List Lexeme) (x : Lexeme) (m : ℕ) → PutsFour before x m → IsIndexPlace before x → ⊥
+four_no_index : (before : List Lexeme) (x : Lexeme) (m : ℕ) → PutsFour before x m → IsIndexStage before x → ⊥
 four_no_index before x m p q = let e = p.text in let f = q.number.1 in absurd (cc (e, f))
 
 closes_one : (kind kind' : PoKind) (before : List Lexeme) (x : Lexeme) (m n : ℕ) → ClosesBy kind before x m
@@ -161,7 +161,7 @@ snoc_one (z ∷ xs) (w ∷ ys) x y e = snoc_one xs ys x y (cc e)
 pub grammar_one : (found : List Lexeme) (kind kind' : PoKind) (m n : ℕ) → HasGrammarFault found kind m
     → HasGrammarFault found kind' n → (kind ≡ kind') × (m ≡ n)
 grammar_one found kind kind' m n (inl p) (inl q) =
-    let same = same_place p.before q.before p.x q.x p.after q.after (sym p.split ∙ q.split) p.open_before q.open_before
+    let same = same_index p.before q.before p.x q.x p.after q.after (sym p.split ∙ q.split) p.open_before q.open_before
     p.closed q.closed in
     closes_one kind kind' q.before q.x m n (subst (λ (l : Lexeme). ClosesBy kind q.before l m) same.1
     (subst (λ (ls : List Lexeme). ClosesBy kind ls p.x m) same.0 p.how)) q.how

@@ -15,7 +15,7 @@ use Rattle.po_text.specs.Spelling.{White, Comment, Word, OpenBracket, CloseBrack
 use Rattle.po_text.specs.Spelling.{is_white, is_word_byte, is_not_line_end, word_token, FaultAt, HasFault, Spells}
 use Rattle.po_text.specs.Spelling.{Lexeme, lexemes, line_of}
 use Rattle.po_text.specs.Entries.{Entry, Derives, all_tokens, IsOpenList, ClosesBy}
-use Rattle.po_text.specs.Places.{Start}
+use Rattle.po_text.specs.Stages.{Start}
 use Rattle.po_text.specs.Outcome.{HasGrammarFault, Reads, IsFaulty, body, IsReadable, Gives, Refuses}
 use Rattle.po_text.proofs.Chains.{Chain-append}
 use Rattle.po_text.proofs.UnitLemmas.{UnitsAt-nil, UnitsAt-cons, octal_take, octal_some, octal_unit, open_at_line_end}
@@ -187,7 +187,7 @@ next_piece b more no_piece no_fault = elim (cases_Bool (is_white b)) [
   ]
 ]
 
--- from a place that pieces reach
+-- from a stage that pieces reach
 lexes_from : (n : ℕ) (text rest : List ℕ) (pieces : List Piece) → length rest < n → Chain PieceAt pieces text rest
     → ((found : List Lexeme) → Spells text found → ⊥) → ((kind : PoKind) (line : ℕ) → HasFault text kind line → ⊥) → ⊥
 lexes_from zero text rest pieces short each no_lexemes no_fault = omega arith
@@ -230,7 +230,7 @@ ends (x ∷ xs) opened no_entries no_fault =
       },
     ))
 
--- from a place up to which the list is open
+-- from a stage up to which the list is open
 derives_from : (found before after : List Lexeme) → found ≡ before ++ after → IsOpenList (all_tokens before)
     → ((entries : List Entry) → Derives found entries → ⊥) →
     ((kind : PoKind) (line : ℕ) → HasGrammarFault found kind line → ⊥) → ⊥

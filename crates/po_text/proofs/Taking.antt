@@ -5,13 +5,13 @@ use Rattle.std.specs.Prelude.{◌⊎◌}
 use Rattle.std.specs.Option.{option_map}
 use Rattle.po_text.specs.declared.flags.Flags.{Flags}
 use Rattle.po_text.specs.declared.lexer.Token as code_token
-use Rattle.po_text.specs.declared.places.Place as code
-use Rattle.po_text.specs.declared.places.Place.TheVariants as places
+use Rattle.po_text.specs.declared.stages.Stage as code
+use Rattle.po_text.specs.declared.stages.Stage.TheVariants as stages
 use Rattle.po_text.specs.declared.fault.PoKind.{PoKind}
 use Rattle.po_text.specs.Spelling.{Token, Context, Id, Mark, Lexeme, Spells}
 use Rattle.po_text.specs.Entries.{Entry, Derives, ClosesAt, EndsEarly}
-use Rattle.po_text.specs.Places.{Place, Start, ContextWord, ContextText, IdWord}
-use Rattle.po_text.specs.Places.{FormText, IndexedText, step, place_view, IsBoundary}
+use Rattle.po_text.specs.Stages.{Stage, Start, ContextWord, ContextText, IdWord}
+use Rattle.po_text.specs.Stages.{FormText, IndexedText, step, stage_view, IsBoundary}
 use Rattle.po_text.specs.Building.{flags_over, no_flags, Draft, draft_of, begin, State, at_state}
 use Rattle.po_text.specs.Building.{drafts_at, opens, opens_id, after, feed_at, start, some_if}
 use Rattle.po_text.specs.Lexing.{HasNext, HasEnd, token_view, gap_marks}
@@ -30,14 +30,14 @@ use Rattle.po_text.proofs.Feeding.{feeds-over, put_together}
 
 -- ---- opening tokens
 
-opens_with_context : (p q : Place) → step p Context ≡ Some q → IsBoundary p × (q ≡ ContextWord)
+opens_with_context : (p q : Stage) → step p Context ≡ Some q → IsBoundary p × (q ≡ ContextWord)
 unfolding step
 opens_with_context Start q e = (tt, sym (cc e))
 opens_with_context FormText q e = (tt, sym (cc e))
 opens_with_context (IndexedText k) q e = (tt, sym (cc e))
 opens_with_context p q e = absurd (cc e)
 
-opens_with_id : (p q : Place) (c : Option (List ℕ)) → step p Id ≡ Some q → opens_id p ≡ Some c → IsBoundary p
+opens_with_id : (p q : Stage) (c : Option (List ℕ)) → step p Id ≡ Some q → opens_id p ≡ Some c → IsBoundary p
     × (q ≡ IdWord) × (c ≡ None)
 unfolding step
 opens_with_id Start q c e f = (tt, sym (cc e), sym (cc f))
@@ -46,60 +46,60 @@ opens_with_id (IndexedText k) q c e f = (tt, sym (cc e), sym (cc f))
 opens_with_id ContextText q c e f = absurd (cc f)
 opens_with_id p q c e f = absurd (cc e)
 
-pub opens_to : (p : Place) (t : Token) (q : Place) (c : Option (List ℕ)) → step p t ≡ Some q → opens t p ≡ Some c
+pub opens_to : (p : Stage) (t : Token) (q : Stage) (c : Option (List ℕ)) → step p t ≡ Some q → opens t p ≡ Some c
     → IsBoundary p × (((q ≡ ContextWord) × (c ≡ Some [])) ⊎ ((q ≡ IdWord) × (c ≡ None)))
 opens_to p Context q c e f = let h = opens_with_context p q e in (h.0, inl (h.1, sym (cc f)))
 opens_to p Id q c e f = let h = opens_with_id p q c e f in (h.0, inr (h.1, h.2))
 opens_to p _ q c e f = absurd (cc f)
 
-view_context : (p : code.Place) (n m : ℕ) → place_view p n ≡ ContextWord → (place_view p n ≡ place_view p m)
+view_context : (p : code.Stage) (n m : ℕ) → stage_view p n ≡ ContextWord → (stage_view p n ≡ stage_view p m)
     × (is_context_word p ≡ true)
-view_context places.ContextWord n m e = (refl, refl)
+view_context stages.ContextWord n m e = (refl, refl)
 view_context _ n m e = absurd (cc e)
 
-view_id : (p : code.Place) (n m : ℕ) → place_view p n ≡ IdWord → (place_view p n ≡ place_view p m)
+view_id : (p : code.Stage) (n m : ℕ) → stage_view p n ≡ IdWord → (stage_view p n ≡ stage_view p m)
     × (is_context_word p ≡ false)
-view_id places.IdWord n m e = (refl, refl)
+view_id stages.IdWord n m e = (refl, refl)
 view_id _ n m e = absurd (cc e)
 
--- the place to which an opening token leads doesn't depend on the count
-pub opens_view : (p : Place) (t : Token) (q : code.Place) (n m : ℕ) (c : Option (List ℕ)) → step p t
-    ≡ Some (place_view q n) → opens t p ≡ Some c → (place_view q n ≡ place_view q m)
+-- the stage to which an opening token leads doesn't depend on the count
+pub opens_view : (p : Stage) (t : Token) (q : code.Stage) (n m : ℕ) (c : Option (List ℕ)) → step p t
+    ≡ Some (stage_view q n) → opens t p ≡ Some c → (stage_view q n ≡ stage_view q m)
     × (c ≡ some_if (is_context_word q) [])
-opens_view p t q n m c e f = elim (opens_to p t (place_view q n) c e f).1 [
+opens_view p t q n m c e f = elim (opens_to p t (stage_view q n) c e f).1 [
   | inl h ↦ let v = view_context q n m h.0 in (v.0, h.1 ∙ ap (λ (b : Bool). some_if b []) (sym v.1))
   | inr h ↦ let v = view_id q n m h.0 in (v.0, h.1 ∙ ap (λ (b : Bool). some_if b []) (sym v.1))
 ]
 
-pub feed_open : (p : Place) (t : Token) (q : code.Place) (n m : ℕ) (c : Option (List ℕ)) (done : List Draft) (d : Draft)
-    (g : Flags) (k line : ℕ) → step p t ≡ Some (place_view q n) → opens t p ≡ Some c
-    → feed_at (at_state p done d g k) [] line t ≡ Some (at_state (place_view q m) (drafts_at p done d)
+pub feed_open : (p : Stage) (t : Token) (q : code.Stage) (n m : ℕ) (c : Option (List ℕ)) (done : List Draft) (d : Draft)
+    (g : Flags) (k line : ℕ) → step p t ≡ Some (stage_view q n) → opens t p ≡ Some c
+    → feed_at (at_state p done d g k) [] line t ≡ Some (at_state (stage_view q m) (drafts_at p done d)
     (begin line g (some_if (is_context_word q) [])) no_flags line)
 feed_open p t q n m c done d g k line e f =
     let v = opens_view p t q n m c e f in
-    ap (λ (o : Option Place). option_map (λ (x : Place). after (opens t p) (at_state p done d g k) [] line t x) o) e
-    ∙ ap (λ (o : Option (Option (List ℕ))). Some (after o (at_state p done d g k) [] line t (place_view q n))) f
-    ∙ ap (λ (x : Place). Some (at_state x (drafts_at p done d) (begin line g c) no_flags line)) v.0
-    ∙ ap (λ (x : Option (List ℕ)). Some (at_state (place_view q m) (drafts_at p done d) (begin line g x) no_flags line))
+    ap (λ (o : Option Stage). option_map (λ (x : Stage). after (opens t p) (at_state p done d g k) [] line t x) o) e
+    ∙ ap (λ (o : Option (Option (List ℕ))). Some (after o (at_state p done d g k) [] line t (stage_view q n))) f
+    ∙ ap (λ (x : Stage). Some (at_state x (drafts_at p done d) (begin line g c) no_flags line)) v.0
+    ∙ ap (λ (x : Option (List ℕ)). Some (at_state (stage_view q m) (drafts_at p done d) (begin line g x) no_flags line))
     v.1
 
 -- ---- one more lexeme
 
 -- the marks of the gap may be counted before the token
-feed_flags : (o : Option (Option (List ℕ))) (p : Place) (done : List Draft) (d : Draft) (f : Flags) (k : ℕ)
-    (marks : List Mark) (line : ℕ) (t : Token) (q : Place)
+feed_flags : (o : Option (Option (List ℕ))) (p : Stage) (done : List Draft) (d : Draft) (f : Flags) (k : ℕ)
+    (marks : List Mark) (line : ℕ) (t : Token) (q : Stage)
     → after o (at_state p done d f k) marks line t q ≡ after o (at_state p done d (flags_over f marks) k) [] line t q
 feed_flags None p done d f k marks line t q = refl
 feed_flags (Some c) p done d f k marks line t q = refl
 
-feed_flags_at : (o : Option Place) (p : Place) (done : List Draft) (d : Draft) (f : Flags) (k : ℕ) (marks : List Mark)
+feed_flags_at : (o : Option Stage) (p : Stage) (done : List Draft) (d : Draft) (f : Flags) (k : ℕ) (marks : List Mark)
     (line : ℕ) (t : Token)
-    → option_map (λ (q : Place). after (opens t p) (at_state p done d f k) marks line t q) o
-    ≡ option_map (λ (q : Place). after (opens t p) (at_state p done d (flags_over f marks) k) [] line t q) o
+    → option_map (λ (q : Stage). after (opens t p) (at_state p done d f k) marks line t q) o
+    ≡ option_map (λ (q : Stage). after (opens t p) (at_state p done d (flags_over f marks) k) [] line t q) o
 feed_flags_at None p done d f k marks line t = refl
 feed_flags_at (Some q) p done d f k marks line t = ap Some (feed_flags (opens t p) p done d f k marks line t q)
 
-pub taken_push : (text : List ℕ) (b c : ℕ) (m t : List ℕ) (p : Place) (done : List Draft) (d : Draft) (f g : Flags)
+pub taken_push : (text : List ℕ) (b c : ℕ) (m t : List ℕ) (p : Stage) (done : List Draft) (d : Draft) (f g : Flags)
     (k : ℕ) (s : State) (token : code_token.Token) (bytes : List ℕ) → HasTaken text b m (at_state p done d f k)
     → HasNext token bytes f b m g c t
     → feed_at (at_state p done d g k) [] c (token_view token bytes) ≡ Some s → HasTaken text c t s
@@ -116,8 +116,8 @@ taken_push text b c m t p done d f g k s token bytes h next e =
           ∙ e);
     }
 
-pub at_start : (p : Place) (done : List Draft) (d : Draft) → p ≡ Start → drafts_at p done d ≡ done
-at_start p done d e = ap (λ (x : Place). drafts_at x done d) e
+pub at_start : (p : Stage) (done : List Draft) (d : Draft) → p ≡ Start → drafts_at p done d ≡ done
+at_start p done d e = ap (λ (x : Stage). drafts_at x done d) e
 
 -- ---- what the parser has read
 
@@ -125,7 +125,7 @@ true_false : (b : Bool) {A : Type 0} → b ≡ true → b ≡ false → A
 true_false b e f = absurd (cc (e, f))
 
 -- the entry under way has its forms
-under_way_forms : (text : List ℕ) (entries : List Entry) (line : ℕ) (rest : List ℕ) (p : Place) (e : Entry) (f : Flags)
+under_way_forms : (text : List ℕ) (entries : List Entry) (line : ℕ) (rest : List ℕ) (p : Stage) (e : Entry) (f : Flags)
     (k : ℕ) → HasTaken text line rest (at_state p (map draft_of entries) (draft_of e) f k) → IsBoundary p
     → drafts_at p (map draft_of entries) (draft_of e) ≡ map draft_of entries ++ (draft_of e ∷ [])
     → HasItsForms e
@@ -136,7 +136,7 @@ under_way_forms text entries line rest p e f k h b last =
     subst HasItsForms (sym (draft_one e other same)) forms
 
 -- the next entry's opening keyword was taken
-pub opening_goes_on : (text : List ℕ) (entries : List Entry) (line : ℕ) (rest : List ℕ) (p : Place) (e : Entry)
+pub opening_goes_on : (text : List ℕ) (entries : List Entry) (line : ℕ) (rest : List ℕ) (p : Stage) (e : Entry)
     (f : Flags) (k : ℕ) (new : Parser)
     → HasTaken text line rest (at_state p (map draft_of entries) (draft_of e) f k) → IsBoundary p
     → drafts_at p (map draft_of entries) (draft_of e) ≡ map draft_of entries ++ (draft_of e ∷ [])
@@ -162,10 +162,10 @@ at_end_read text entries r done reads = record {
 -- the text ended where it may end
 pub end_goes_on : (ended : Bool) (text : List ℕ) (entries : List Entry) (line : ℕ) (rest : List ℕ) (old new : Parser)
     (e : Entry) (f : Flags) (k : ℕ)
-    → HasTaken text line rest (at_state (place_view old.place old.count) (map draft_of entries) (draft_of e) f k)
+    → HasTaken text line rest (at_state (stage_view old.stage old.count) (map draft_of entries) (draft_of e) f k)
     → HasEnd f line rest → EndsRight ended old → new.finished ≡ true → ParsesOn ended text entries e new
 end_goes_on true text entries line rest old new e f k h end (b, last) done =
-    let p = place_view old.place old.count in
+    let p = stage_view old.stage old.count in
     let (es, derives, is) = put_together h.found (at_state p (map draft_of entries) (draft_of e) f k) h.fed b in
     let all : es ≡ entries ++ (e ∷ []) = drafts_one es (entries ++ (e ∷ []))
     (sym is ∙ last (map draft_of entries) (draft_of e) ∙ sym (snoc_drafts entries e (draft_of e) refl)) in
@@ -180,11 +180,11 @@ end_goes_on true text entries line rest old new e f k h end (b, last) done =
           (entries ++ (e ∷ [])) new done reads,
     )
 end_goes_on false text entries line rest old new e f k h end empty done =
-    let p = place_view old.place old.count in
+    let p = stage_view old.stage old.count in
     let (es, derives, is) = put_together h.found (at_state p (map draft_of entries) (draft_of e) f k) h.fed
-    (subst (λ (x : Place). IsBoundary x) (sym empty) tt) in
+    (subst (λ (x : Stage). IsBoundary x) (sym empty) tt) in
     let all : es ≡ entries = drafts_one es entries (sym is ∙ ap
-    (λ (x : Place). drafts_at x (map draft_of entries) (draft_of e)) empty) in
+    (λ (x : Stage). drafts_at x (map draft_of entries) (draft_of e)) empty) in
     let reads : Reads text entries = (
       h.found,
       lexemes_end h.found line text rest f h.takes end,
@@ -194,7 +194,7 @@ end_goes_on false text entries line rest old new e f k h end empty done =
     (reads, at_end_read text entries new done reads)
 
 -- the text ended in the middle of an entry
-pub end_is_faulty : (text : List ℕ) (line : ℕ) (rest : List ℕ) (p : Place) (done : List Draft) (d : Draft) (f : Flags)
+pub end_is_faulty : (text : List ℕ) (line : ℕ) (rest : List ℕ) (p : Stage) (done : List Draft) (d : Draft) (f : Flags)
     (k : ℕ) (kind : PoKind) (at : ℕ) → HasTaken text line rest (at_state p done d f k) → HasEnd f line rest
     → ¬ IsBoundary p → kind ≡ BadOrder → at ≡ line → IsFaulty text kind at
 end_is_faulty text line rest p done d f k kind at h end inside is line_is =
@@ -209,7 +209,7 @@ end_is_faulty text line rest p done d f k kind at h end inside is line_is =
     )
 
 -- a token isn't allowed here
-pub taken_refused : (text : List ℕ) (b c : ℕ) (m t : List ℕ) (p : Place) (done : List Draft) (d : Draft) (f g : Flags)
+pub taken_refused : (text : List ℕ) (b c : ℕ) (m t : List ℕ) (p : Stage) (done : List Draft) (d : Draft) (f g : Flags)
     (k : ℕ) (token : code_token.Token) (bytes : List ℕ) → HasTaken text b m (at_state p done d f k)
     → HasNext token bytes f b m g c t
     → step p (token_view token bytes) ≡ None → Refused text c t p k (token_view token bytes)
@@ -219,25 +219,25 @@ taken_refused text b c m t p done d f g k token bytes h next e = record {
   s = at_state p done d f k;
   takes = lexemes_push h.found 1 b c text m t f g token bytes h.takes next;
   fed = h.fed;
-  place = refl;
+  stage = refl;
   keyword = refl;
   token = refl;
   line_is = refl;
   refused = e;
 }
 
-pub refused_is_faulty : (text : List ℕ) (line : ℕ) (rest : List ℕ) (p : Place) (k : ℕ) (t : Token) (fault : PoFault)
+pub refused_is_faulty : (text : List ℕ) (line : ℕ) (rest : List ℕ) (p : Stage) (k : ℕ) (t : Token) (fault : PoFault)
     → (h : Refused text line rest p k t) → (more : List Lexeme) → Spells text ((h.found ++ (h.x ∷ [])) ++ more) → fault
     ≡ refusal t p line k → IsFaulty text fault.kind fault.line
 refused_is_faulty text line rest p k t fault h more spells is =
     let token = h.token in
-    let place = h.place in
-    let at : step h.s.place h.x.token ≡ None = ap (λ (x : Token). step h.s.place x) h.token
-    ∙ ap (λ (x : Place). step x t) h.place ∙ h.refused in
+    let stage = h.stage in
+    let at : step h.s.stage h.x.token ≡ None = ap (λ (x : Token). step h.s.stage x) h.token
+    ∙ ap (λ (x : Stage). step x t) h.stage ∙ h.refused in
     let closes = refused_closes h.found more h.x h.s h.fed at in
-    let same : refusal h.x.token h.s.place h.x.line h.s.keyword ≡ fault
-    = ap (λ (x : Token). refusal x h.s.place h.x.line h.s.keyword) h.token
-    ∙ ap (λ (x : Place). refusal t x h.x.line h.s.keyword) h.place
+    let same : refusal h.x.token h.s.stage h.x.line h.s.keyword ≡ fault
+    = ap (λ (x : Token). refusal x h.s.stage h.x.line h.s.keyword) h.token
+    ∙ ap (λ (x : Stage). refusal t x h.x.line h.s.keyword) h.stage
     ∙ ap (λ (x : ℕ). refusal t p x h.s.keyword) h.line_is ∙ ap (λ (x : ℕ). refusal t p line x) h.keyword ∙ sym is in
     inr (
       h.found ++ (h.x ∷ more),

@@ -5,8 +5,8 @@ use Rattle.po_text.specs.declared.buffer.EntryBuffer.TheInside.{Inside}
 use Rattle.po_text.specs.Spelling.{Token, Text, IsLawful}
 use Rattle.po_text.specs.Entries.{Entry}
 use Rattle.po_text.specs.Lawful.{IsLawfulTexts}
-use Rattle.po_text.specs.Places.{Place, ContextWord, ContextText, IdWord, IdText, FormWord, FormText}
-use Rattle.po_text.specs.Places.{PluralWord, PluralText, IndexOpen, IndexNumber, IndexClose, IndexedWord, IndexedText}
+use Rattle.po_text.specs.Stages.{Stage, ContextWord, ContextText, IdWord, IdText, FormWord, FormText}
+use Rattle.po_text.specs.Stages.{PluralWord, PluralText, IndexOpen, IndexNumber, IndexClose, IndexedWord, IndexedText}
 use Rattle.po_text.specs.Building.{Draft, draft_of, some_if, first_or}
 
 -- the forms that start at these offsets, each up to the next one or the end
@@ -45,8 +45,8 @@ pub record IsWellBuilt (b : Inside) : Type 0 where
   pub laid_out : draft_in b ≡ draft_of (entry_in b)
   pub lawful : IsLawfulTexts (entry_in b)
 
--- a form was begun, if the place is in one
-abbrev pub HasForm : Place → Draft → Type 0
+-- a form was begun, if the stage is in one
+abbrev pub HasForm : Stage → Draft → Type 0
 HasForm FormWord d = d.starts ≢ []
 HasForm FormText d = d.starts ≢ []
 HasForm (IndexOpen k) d = d.starts ≢ []
@@ -56,8 +56,8 @@ HasForm (IndexedWord k) d = d.starts ≢ []
 HasForm (IndexedText k) d = d.starts ≢ []
 HasForm _ d = Unit {0}
 
--- a string with these bytes may be added at this place
-abbrev pub CanAddText : Place → List ℕ → Draft → Type 0
+-- a string with these bytes may be added at this stage
+abbrev pub CanAddText : Stage → List ℕ → Draft → Type 0
 CanAddText ContextWord bytes d = ¬ Contains bytes 4
 CanAddText ContextText bytes d = ¬ Contains bytes 4
 CanAddText IdWord bytes d = ¬ Contains bytes 4
@@ -66,7 +66,7 @@ CanAddText PluralWord bytes d = Unit {0}
 CanAddText PluralText bytes d = Unit {0}
 CanAddText _ bytes d = d.starts ≢ []
 
--- this token may be added at this place
-abbrev pub CanAdd : Token → Place → Draft → Type 0
+-- this token may be added at this stage
+abbrev pub CanAdd : Token → Stage → Draft → Type 0
 CanAdd (Text bytes) p d = IsLawful bytes × CanAddText p bytes d
 CanAdd _ p d = Unit {0}

@@ -7,8 +7,8 @@ use Rattle.po_text.specs.declared.flags.Flags.{Flags}
 use Rattle.po_text.specs.declared.buffer.Lines.{Lines}
 use Rattle.po_text.specs.Spelling.{Token, Context, Id, Plural, Str, Text, Mark, Fuzzy, CFormat, Flag, Clear, Lexeme}
 use Rattle.po_text.specs.Entries.{Entry, formats_after}
-use Rattle.po_text.specs.Places.{Place, Start, ContextWord, ContextText, IdWord, IdText, PluralWord, PluralText}
-use Rattle.po_text.specs.Places.{IndexedText, step}
+use Rattle.po_text.specs.Stages.{Stage, Start, ContextWord, ContextText, IdWord, IdText, PluralWord, PluralText}
+use Rattle.po_text.specs.Stages.{IndexedText, step}
 
 -- whether the entry is fuzzy after these marks, mark by mark
 abbrev pub fuzzy_of : Bool → List Mark → Bool
@@ -144,7 +144,7 @@ new_plural d = record {
 }
 
 -- the lines of an entry after a `msgstr` on this line
-abbrev pub noted : Place → ℕ → Lines → Lines
+abbrev pub noted : Stage → ℕ → Lines → Lines
 noted (IndexedText k) line old = old
 noted _ line old = record { entry = old.entry; form = line }
 
@@ -159,8 +159,8 @@ new_form lines d = record {
   starts = d.starts ++ (length d.flat ∷ []);
 }
 
--- a string is added to the part of the entry that the place is in
-abbrev pub put_text : Place → List ℕ → Draft → Draft
+-- a string is added to the part of the entry that the stage is in
+abbrev pub put_text : Stage → List ℕ → Draft → Draft
 put_text ContextWord bytes d = add_context d bytes
 put_text ContextText bytes d = add_context d bytes
 put_text IdWord bytes d = add_id d bytes
@@ -170,7 +170,7 @@ put_text PluralText bytes d = add_plural d bytes
 put_text _ bytes d = add_form d bytes
 
 -- a token on this line that doesn't open an entry
-abbrev pub put : Token → ℕ → Place → Draft → Draft
+abbrev pub put : Token → ℕ → Stage → Draft → Draft
 put (Text bytes) line p d = put_text p bytes d
 put Plural line p d = new_plural d
 put Str line p d = new_form (noted p line d.lines) d
@@ -178,26 +178,26 @@ put _ line p d = d
 
 -- the state of the parser: what it has read so far
 pub record State : Type 0 where
-  pub place : Place
+  pub stage : Stage
   pub done : List Draft
   pub draft : Draft
   pub flags : Flags
   pub keyword : ℕ
 
-abbrev pub at_state : Place → List Draft → Draft → Flags → ℕ → State
-at_state p done d f k = record { place = p; done = done; draft = d; flags = f; keyword = k }
+abbrev pub at_state : Stage → List Draft → Draft → Flags → ℕ → State
+at_state p done d f k = record { stage = p; done = done; draft = d; flags = f; keyword = k }
 
 -- the entries, including the one under way
-abbrev pub drafts_at : Place → List Draft → Draft → List Draft
+abbrev pub drafts_at : Stage → List Draft → Draft → List Draft
 drafts_at Start done d = done
 drafts_at _ done d = done ++ (d ∷ [])
 
--- the context with which this token begins an entry at this place, if it opens one
-abbrev pub opens_id : Place → Option (Option (List ℕ))
+-- the context with which this token begins an entry at this stage, if it opens one
+abbrev pub opens_id : Stage → Option (Option (List ℕ))
 opens_id ContextText = None
 opens_id _ = Some None
 
-abbrev pub opens : Token → Place → Option (Option (List ℕ))
+abbrev pub opens : Token → Stage → Option (Option (List ℕ))
 opens Context p = Some (Some [])
 opens Id p = opens_id p
 opens _ p = None
@@ -207,14 +207,14 @@ abbrev pub keyword_line : Token → ℕ → ℕ → ℕ
 keyword_line Id line k = line
 keyword_line _ line k = k
 
-abbrev pub after : Option (Option (List ℕ)) → State → List Mark → ℕ → Token → Place → State
+abbrev pub after : Option (Option (List ℕ)) → State → List Mark → ℕ → Token → Stage → State
 after (Some context) s marks line t p =
-    at_state p (drafts_at s.place s.done s.draft) (begin line (flags_over s.flags marks) context) no_flags line
+    at_state p (drafts_at s.stage s.done s.draft) (begin line (flags_over s.flags marks) context) no_flags line
 after None s marks line t p =
-    at_state p s.done (put t line s.place s.draft) (flags_over s.flags marks) (keyword_line t line s.keyword)
+    at_state p s.done (put t line s.stage s.draft) (flags_over s.flags marks) (keyword_line t line s.keyword)
 
 abbrev pub feed_at : State → List Mark → ℕ → Token → Option State
-feed_at s marks line t = option_map (λ p. after (opens t s.place) s marks line t p) (step s.place t)
+feed_at s marks line t = option_map (λ p. after (opens t s.stage) s marks line t p) (step s.stage t)
 
 abbrev pub feed : Option State → Lexeme → Option State
 feed None l = None

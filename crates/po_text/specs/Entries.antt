@@ -219,7 +219,7 @@ pub record PutsFour (before : List Lexeme) (x : Lexeme) (line : ℕ) : Type 0 wh
   pub line_is : line ≡ keyword.line
 
 -- x is a number after an opening bracket, where an index belongs
-pub record IsIndexPlace (before : List Lexeme) (x : Lexeme) : Type 0 where
+pub record IsIndexStage (before : List Lexeme) (x : Lexeme) : Type 0 where
   pub front : List Lexeme
   pub bracket : Lexeme
   pub split : before ≡ front ++ bracket ∷ []
@@ -229,8 +229,8 @@ pub record IsIndexPlace (before : List Lexeme) (x : Lexeme) : Type 0 where
 -- what is wrong with x after these lexemes, and on which line
 abbrev pub ClosesBy : PoKind → List Lexeme → Lexeme → ℕ → Type 0
 ClosesBy BadText before x line = PutsFour before x line
-ClosesBy BadIndex before x line = IsIndexPlace before x × (line ≡ x.line)
-ClosesBy BadOrder before x line = ((n : ℕ) → ¬ PutsFour before x n) × ¬ IsIndexPlace before x × (line ≡ x.line)
+ClosesBy BadIndex before x line = IsIndexStage before x × (line ≡ x.line)
+ClosesBy BadOrder before x line = ((n : ℕ) → ¬ PutsFour before x n) × ¬ IsIndexStage before x × (line ≡ x.line)
 ClosesBy _ before x line = ⊥
 
 -- x is the first lexeme that makes the list no longer open

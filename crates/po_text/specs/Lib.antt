@@ -2,7 +2,7 @@ pub mod Faults
 pub mod Ends
 pub mod Spelling
 pub mod Entries
-pub mod Places
+pub mod Stages
 pub mod Building
 pub mod Lexing
 pub mod Outcome

@@ -7,14 +7,14 @@ ghost use Rattle.po_text.specs.Building.{begin, draft_of, first_or, noted, put, 
 ghost use Rattle.po_text.specs.Entries.{no_entry};
 ghost use Rattle.po_text.specs.Lawful.{IsLawfulTexts};
 ghost use Rattle.po_text.specs.Lexing.{token_view};
-ghost use Rattle.po_text.specs.Places.{place_view};
+ghost use Rattle.po_text.specs.Stages.{stage_view};
 ghost use Rattle.po_text.specs.Spelling.{IsLawful};
 ghost use Rattle.po_text.specs.Views.{content, entry_view};
 
 use crate::entry::PoEntry;
 use crate::flags::Flags;
 use crate::lexer::Token;
-use crate::places::Place;
+use crate::stages::Stage;
 use std::alloc::{AllocError, Global};
 use std::marker::Model;
 
@@ -93,11 +93,11 @@ fn form_bounds(starts: &[usize], end: usize, k: usize) -> (usize, usize)
 }
 
 /// The lines of an entry after a `msgstr` on this line.
-fn lines_after(place: Place, line: u32, lines: Lines) -> Lines
-    ensures { (k : ℕ) → result ≡ noted (place_view place k) line lines }
+fn lines_after(stage: Stage, line: u32, lines: Lines) -> Lines
+    ensures { (k : ℕ) → result ≡ noted (stage_view stage k) line lines }
 {
-    match place {
-        Place::IndexedText => lines,
+    match stage {
+        Stage::IndexedText => lines,
         _ => Lines {
             form: line,
             ..lines
@@ -273,17 +273,17 @@ impl EntryBuffer {
         self.starts.clear();
     }
 
-    /// Appends a string to the part of the entry that `place` is in.
-    fn put_text(&mut self, place: Place, bytes: &[u8]) -> Result<(), AllocError>
+    /// Appends a string to the part of the entry that `stage` is in.
+    fn put_text(&mut self, stage: Stage, bytes: &[u8]) -> Result<(), AllocError>
         requires lawful { IsLawful bytes.now }
-        requires stands { (k : ℕ) → CanAddText (place_view place k) bytes.now (draft_of self.old) }
+        requires stands { (k : ℕ) → CanAddText (stage_view stage k) bytes.now (draft_of self.old) }
         ensures { (k : ℕ) → OnOk result
-            (draft_of self.new ≡ put_text (place_view place k) bytes.now (draft_of self.old)) }
+            (draft_of self.new ≡ put_text (stage_view stage k) bytes.now (draft_of self.old)) }
     {
-        match place {
-            Place::ContextWord | Place::ContextText => self.context.extend_from_slice(bytes),
-            Place::IdWord | Place::IdText => self.id.extend_from_slice(bytes),
-            Place::PluralWord | Place::PluralText => self.plural.extend_from_slice(bytes),
+        match stage {
+            Stage::ContextWord | Stage::ContextText => self.context.extend_from_slice(bytes),
+            Stage::IdWord | Stage::IdText => self.id.extend_from_slice(bytes),
+            Stage::PluralWord | Stage::PluralText => self.plural.extend_from_slice(bytes),
             _ => self.forms.extend_from_slice(bytes),
         }
     }
@@ -291,25 +291,25 @@ impl EntryBuffer {
     /// Adds a token on this line that doesn't open an entry.
     pub(crate) fn put(
         &mut self,
-        place: Place,
+        stage: Stage,
         token: Token,
         line: u32,
         bytes: &[u8],
     ) -> Result<(), AllocError>
         requires { (k : ℕ) →
-            CanAdd (token_view token bytes.now) (place_view place k) (draft_of self.old) }
+            CanAdd (token_view token bytes.now) (stage_view stage k) (draft_of self.old) }
         ensures { (k : ℕ) → OnOk result (draft_of self.new
-            ≡ put (token_view token bytes.now) line (place_view place k) (draft_of self.old)) }
+            ≡ put (token_view token bytes.now) line (stage_view stage k) (draft_of self.old)) }
     {
         match token {
-            Token::Text => self.put_text(place, bytes),
+            Token::Text => self.put_text(stage, bytes),
             Token::Plural => {
                 self.has_plural = true;
                 self.plural.clear();
                 Ok(())
             }
             Token::Str => {
-                self.lines = lines_after(place, line, self.lines);
+                self.lines = lines_after(stage, line, self.lines);
                 self.starts.push(self.forms.len())?;
                 Ok(())
             }

@@ -11,11 +11,11 @@ mod flags;
 mod lexer;
 mod open;
 mod parser;
-mod places;
 mod plain;
 mod read;
 mod reader;
 mod scan;
+mod stages;
 mod strings;
 mod units;
 

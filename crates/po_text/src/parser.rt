@@ -3,7 +3,7 @@ ghost use Rattle.std.specs.Prelude.{◌≡◌, ℕ, ◌+◌, ◌<◌, ◌≤◌,
 ghost use Rattle.std.specs.Bool.{OnTrue};
 ghost use Rattle.po_text.specs.declared.fault.PoKind.TheVariants.{BadOrder};
 ghost use Rattle.po_text.specs.Lexing.{token_view, string_of, IsLawfulToken};
-ghost use Rattle.po_text.specs.Places.{place_view, next_count, step, IsBoundary};
+ghost use Rattle.po_text.specs.Stages.{stage_view, next_count, step, IsBoundary};
 ghost use Rattle.po_text.specs.Ends.{EndsText};
 ghost use Rattle.po_text.specs.Faults.{out_of_memory};
 ghost use Rattle.po_text.specs.Entries.{Entry};
@@ -16,7 +16,7 @@ use crate::buffer::EntryBuffer;
 use crate::fault::{PoFault, PoKind};
 use crate::flags::Flags;
 use crate::lexer::{Lexer, Token};
-use crate::places::{Place, forms_after, next_place, opens_entry};
+use crate::stages::{Stage, forms_after, next_stage, opens_entry};
 use crate::strings::StringBytes;
 use std::alloc::{AllocError, Global};
 
@@ -27,8 +27,8 @@ pub(crate) struct Parser<'a> {
     lexer: Lexer<'a>,
     /// The bytes of the last string read.
     bytes: StringBytes<'a>,
-    /// The place in the grammar, after the last token.
-    place: Place,
+    /// The stage in the grammar, after the last token.
+    stage: Stage,
     /// The number of the entry's plural forms that are complete.
     count: u32,
     /// The line of the entry's opening keyword.
@@ -41,16 +41,16 @@ pub(crate) struct Parser<'a> {
     finished: bool,
 }
 
-fn is_context(place: Place) -> bool
-    ensures { result ≡ is_context_word place }
+fn is_context(stage: Stage) -> bool
+    ensures { result ≡ is_context_word stage }
 {
-    matches!(place, Place::ContextWord)
+    matches!(stage, Stage::ContextWord)
 }
 
-fn is_start(place: Place) -> bool
-    ensures { (k : ℕ) → StartTest result (place_view place k) }
+fn is_start(stage: Stage) -> bool
+    ensures { (k : ℕ) → StartTest result (stage_view stage k) }
 {
-    matches!(place, Place::Start)
+    matches!(stage, Stage::Start)
 }
 
 /// The line of the last `msgctxt` or `msgid` once `token` is taken, if it was `old` before.
@@ -63,15 +63,15 @@ fn keyword_after(token: Token, line: u32, old: u32) -> u32
     }
 }
 
-/// The fault of a token that isn't allowed at this place.
-fn refusal_of(place: Place, token: Token, line: u32, keyword_line: u32) -> PoFault
+/// The fault of a token that isn't allowed at this stage.
+fn refusal_of(stage: Stage, token: Token, line: u32, keyword_line: u32) -> PoFault
     ensures { (bytes : List ℕ) (k : ℕ) →
-        result ≡ refusal (token_view token bytes) (place_view place k) line keyword_line }
+        result ≡ refusal (token_view token bytes) (stage_view stage k) line keyword_line }
 {
-    match (token, place) {
-        (Token::Text, Place::ContextWord | Place::ContextText | Place::IdWord | Place::IdText) =>
+    match (token, stage) {
+        (Token::Text, Stage::ContextWord | Stage::ContextText | Stage::IdWord | Stage::IdText) =>
             PoFault::new(PoKind::BadText, keyword_line),
-        (Token::Number(_), Place::IndexNumber) => PoFault::new(PoKind::BadIndex, line),
+        (Token::Number(_), Stage::IndexNumber) => PoFault::new(PoKind::BadIndex, line),
         _ => PoFault::new(PoKind::BadOrder, line),
     }
 }
@@ -90,7 +90,7 @@ impl<'a> Parser<'a> {
         Parser {
             lexer: Lexer::new(text),
             bytes: StringBytes::new(alloc),
-            place: Place::Start,
+            stage: Stage::Start,
             count: 0,
             line: 0,
             entry_flags: Flags::NONE,
@@ -99,18 +99,18 @@ impl<'a> Parser<'a> {
         }
     }
 
-    /// Takes a token that leads to `place`; returns true if the token ends the entry by opening the next one.
+    /// Takes a token that leads to `stage`; returns true if the token ends the entry by opening the next one.
     fn take(
         &mut self,
         token: Token,
-        place: Place,
+        stage: Stage,
         into: &mut EntryBuffer,
     ) -> Result<bool, AllocError>
         requires room { self.old.count + 1 < 2 ^ 32 }
         requires lawful { IsLawfulToken (token_view token (string_of self.old.bytes)) }
-        requires form { HasForm (place_view self.old.place self.old.count) (draft_of into.old) }
-        requires stands { step (place_view self.old.place self.old.count) (token_view token (string_of self.old.bytes))
-            ≡ Some (place_view place (next_count self.old.place token self.old.count)) }
+        requires form { HasForm (stage_view self.old.stage self.old.count) (draft_of into.old) }
+        requires stands { step (stage_view self.old.stage self.old.count) (token_view token (string_of self.old.bytes))
+            ≡ Some (stage_view stage (next_count self.old.stage token self.old.count)) }
         ensures rest { self.new.lexer.rest.now ≡ self.old.lexer.rest.now }
         ensures line { self.new.lexer.line ≡ self.old.lexer.line }
         ensures count { self.new.count ≤ self.old.count + 1 }
@@ -120,8 +120,8 @@ impl<'a> Parser<'a> {
             TakesToken opened done (token_view token (string_of self.old.bytes)) self.old.lexer.line
             self.old into.old self.new into.new) }
     {
-        let before = self.place;
-        self.place = place;
+        let before = self.stage;
+        self.stage = stage;
         if !opens_entry(before, token) {
             into.put(before, token, self.lexer.line, self.bytes.as_slice())?;
             self.count = forms_after(before, token, self.count);
@@ -133,7 +133,7 @@ impl<'a> Parser<'a> {
         self.keyword_line = self.lexer.line;
         self.lexer.flags = Flags::NONE;
         if is_start(before) {
-            into.begin(self.line, self.entry_flags, is_context(place));
+            into.begin(self.line, self.entry_flags, is_context(stage));
             return Ok(false);
         }
         Ok(true)
@@ -145,18 +145,18 @@ impl<'a> Parser<'a> {
         ensures right { IfOk result (λ ended. EndsRight ended self.old) }
         ensures finished { IfOk result (λ _. self.new.finished ≡ true) }
         ensures fault { IfErr result (λ fault.
-            (¬ IsBoundary (place_view self.old.place self.old.count))
+            (¬ IsBoundary (stage_view self.old.stage self.old.count))
             × (fault.kind ≡ BadOrder) × (fault.line ≡ last)) }
         ensures rest { self.new.lexer.rest.now ≡ self.old.lexer.rest.now }
         ensures line { self.new.lexer.line ≡ self.old.lexer.line }
         ensures count { self.new.count ≡ self.old.count }
     {
-        match self.place {
-            Place::Start => {
+        match self.stage {
+            Stage::Start => {
                 self.finished = true;
                 Ok(false)
             }
-            Place::FormText | Place::IndexedText => {
+            Stage::FormText | Stage::IndexedText => {
                 self.finished = true;
                 Ok(true)
             }
@@ -170,11 +170,11 @@ impl<'a> Parser<'a> {
         requires { self.old.lexer.line + length self.old.lexer.rest.now < 2 ^ 32 }
         ensures { (result ≡ out_of_memory) ⊎ ((text : List ℕ) →
             Refused text self.old.lexer.line self.old.lexer.rest.now
-            (place_view self.old.place self.old.count) self.old.keyword_line
+            (stage_view self.old.stage self.old.count) self.old.keyword_line
             (token_view token (string_of self.old.bytes))
             → IsFaulty text result.kind result.line) }
     {
-        let fault = refusal_of(self.place, token, self.lexer.line, self.keyword_line);
+        let fault = refusal_of(self.stage, token, self.lexer.line, self.keyword_line);
         match self.lexer.skip_tokens(&mut self.bytes) {
             Ok(()) => fault,
             Err(lexical) => lexical,
@@ -195,17 +195,17 @@ impl<'a> Parser<'a> {
         if self.finished {
             return Ok(false);
         }
-        into.begin(self.line, self.entry_flags, is_context(self.place));
+        into.begin(self.line, self.entry_flags, is_context(self.stage));
         'tokens: loop {
             let last = self.lexer.line;
             let Some(token) = self.lexer.next_token(&mut self.bytes)? else {
                 return self.end(last)
             };
-            let Some(place) = next_place(self.place, token, self.count, self.bytes.as_slice())
+            let Some(stage) = next_stage(self.stage, token, self.count, self.bytes.as_slice())
             else {
                 return Err(self.refuse(token))
             };
-            if self.take(token, place, into)? {
+            if self.take(token, stage, into)? {
                 return Ok(true);
             }
         }

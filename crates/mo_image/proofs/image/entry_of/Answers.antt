@@ -1,5 +1,5 @@
 use Rattle.std.proofs.Common.{ap, sym, ◌∙◌}
-use Rattle.byte_text.specs.Cut.{place_of}
+use Rattle.byte_text.specs.Cut.{offset_of}
 use Rattle.mo_image.specs.MoFile.{closed}
 use Rattle.mo_image.proofs.ImageFacts.{entry_facts}
 use Rattle.mo_image.proofs.Extents.{piece_named, piece_held}
@@ -40,7 +40,7 @@ new-requires c =
             bytes _ c.args.texts.now.translation at.translation,
       )
           (entry_facts bytes c.requires.extents.0 c.requires.image at.within).lawful;
-      key_len = at.key_len ∙ ap (place_of 0)
+      key_len = at.key_len ∙ ap (offset_of 0)
           (sym (c.text_in.ensures ∙ piece_named bytes _ c.args.texts.now.original at.original));
       closed = c.closed_in.ensures ∙ ap closed (sym c.text_in-2.ensures);
     }

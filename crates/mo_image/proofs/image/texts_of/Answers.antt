@@ -1,7 +1,7 @@
 use Rattle.std.proofs.Common.{ℕ, ◌≡◌, ◌+◌, ◌*◌, length, drop, subst, arith, ap, ◌∙◌}
 use Rattle.std.proofs.lemmas.List.{length-take}
 use Rattle.byteorder.specs.Endian.{little_number}
-use Rattle.byte_text.specs.Cut.{place_of}
+use Rattle.byte_text.specs.Cut.{offset_of}
 use Rattle.mo_image.specs.Extents.{IsNamedAt}
 use Rattle.mo_image.specs.Image.{listing}
 use Rattle.mo_image.specs.Tables.{word_at}
@@ -56,7 +56,7 @@ returns-clause-texts c =
       within = c.requires.within;
       original = c.extent_at.ensures;
       translation = subst (λ (p : ℕ). IsNamedAt bytes p extent.result) place extent.ensures;
-      key_len = c.key_len.ensures.place ∙ ap (place_of 0) c.text.ensures;
+      key_len = c.key_len.ensures.place ∙ ap (offset_of 0) c.text.ensures;
     }
 
 pub text-requires : goal.text-requires

@@ -9,5 +9,5 @@ returns-in-Some-clause-some c =
     let behind = c.in_ok-behind.ensures.lookup.0 in
     subst (λ (slots : List Slot). IfSome c.slot_in.result (λ slot. Contains slots slot.now))
     (c.deref.ensures.value ∙ c.self.view_is)
-    (among_all c.deref.result.now c.in_ok-behind.behind.now c.in-Some.near.now c.args.place _ c.slot_in.result behind.2
-    behind.3 c.in-Some.ensures.cases c.slot_in.ensures.some)
+    (among_all c.deref.result.now c.in_ok-behind.behind.now c.in-Some.near.now c.args.slot_index _ c.slot_in.result
+    behind.2 behind.3 c.in-Some.ensures.cases c.slot_in.ensures.some)

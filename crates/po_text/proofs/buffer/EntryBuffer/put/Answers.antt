@@ -1,7 +1,7 @@
 use Rattle.std.proofs.Common.{◌≡◌, ℕ, ◌++◌, ◌∷◌, [], refl, ap, ◌∙◌, arith, length}
 use Rattle.po_text.specs.declared.buffer.Lines.{Lines}
 use Rattle.po_text.specs.Entries.{Entry}
-use Rattle.po_text.specs.Places.{place_view}
+use Rattle.po_text.specs.Stages.{stage_view}
 use Rattle.po_text.specs.Building.{draft_of, new_form, noted}
 use Rattle.po_text.proofs.Kept.{form_kept, form_put}
 use Rattle.po_text.proofs.buffer.EntryBuffer.put.Goals as goal
@@ -21,7 +21,7 @@ pub returns-in_ok-push-in-Str : goal.returns-in_ok-push-in-Str
 returns-in_ok-push-in-Str c k =
     let b = c.self-in-Str.inside in
     let e = c.args.self.now in
-    let p = place_view c.args.place k in
+    let p = stage_view c.args.stage k in
     let at : c.push.new.self.items ≡ b.starts.items ++ (length b.forms.items ∷ []) = c.in_ok-push-in-Str.ensures.items
     ∙ ap (λ (n : ℕ). b.starts.items ++ (n ∷ [])) (omega (arith, c.len.ensures, b.forms.ok.0)) in
     let lines : c.lines_after-self-inside.result ≡ noted p c.args.line (draft_of e).lines

@@ -10,7 +10,7 @@ use Rattle.po_text.specs.Outcome.{IsFaulty}
 use Rattle.std.proofs.lemmas.Result.{err_from_is_err_and}
 use Rattle.po_text.specs.Building.{draft_of, at_state}
 use Rattle.po_text.specs.Parsing.{HasTaken, HasParsed, ParsesOn, EndsRight}
-use Rattle.po_text.specs.Places.{place_view, IsBoundary}
+use Rattle.po_text.specs.Stages.{stage_view, IsBoundary}
 use Rattle.po_text.specs.Lexing.{string_of, HasEnd}
 use Rattle.po_text.proofs.LexemeLemmas.{lexemes_fault}
 use Rattle.po_text.proofs.Taking.{taken_push, opening_goes_on, end_goes_on, end_is_faulty, taken_refused}
@@ -29,7 +29,7 @@ returns-in_err-token-clause-fault c =
 end_ok : (r : Result Bool PoFault) (old new : Parser) (e : Entry) (f : Flags) (line : ℕ) (rest : List ℕ) (from : Parser)
     → IfOk r (λ ended. EndsRight ended old) → IfOk r (λ _. new.finished ≡ true) → HasEnd f line rest
     → ((text : List ℕ) (entries : List Entry) → HasParsed text entries from
-    → HasTaken text line rest (at_state (place_view old.place old.count) (map draft_of entries) (draft_of e) f
+    → HasTaken text line rest (at_state (stage_view old.stage old.count) (map draft_of entries) (draft_of e) f
     old.keyword_line))
     → IfOk r (λ more. (text : List ℕ) (entries : List Entry) → HasParsed text entries from
     → ParsesOn more text entries e new)
@@ -38,16 +38,16 @@ end_ok (Ok ended) old new e f line rest from right done end taken = λ text entr
 end_ok (Err fault) old new e f line rest from right done end taken = tt
 
 end_err : (r : Result Bool PoFault) (old : Parser) (e : Entry) (f : Flags) (line : ℕ) (rest : List ℕ) (from : Parser)
-    → IfErr r (λ fault. (¬ IsBoundary (place_view old.place old.count)) × (fault.kind ≡ BadOrder) × (fault.line ≡ line))
+    → IfErr r (λ fault. (¬ IsBoundary (stage_view old.stage old.count)) × (fault.kind ≡ BadOrder) × (fault.line ≡ line))
     → HasEnd f line rest
     → ((text : List ℕ) (entries : List Entry) → HasParsed text entries from
-    → HasTaken text line rest (at_state (place_view old.place old.count) (map draft_of entries) (draft_of e) f
+    → HasTaken text line rest (at_state (stage_view old.stage old.count) (map draft_of entries) (draft_of e) f
     old.keyword_line))
     → IfErr r (λ fault. (fault ≡ out_of_memory) ⊎ ((text : List ℕ) (entries : List Entry) → HasParsed text entries from
     → IsFaulty text fault.kind fault.line))
 end_err (Ok ended) old e f line rest from fault end taken = tt
 end_err (Err fault) old e f line rest from (inside, kind, at) end taken = inr
-    (λ text entries had. end_is_faulty text line rest (place_view old.place old.count) (map draft_of entries)
+    (λ text entries had. end_is_faulty text line rest (stage_view old.stage old.count) (map draft_of entries)
     (draft_of e) f old.keyword_line fault.kind fault.line (taken text entries had) end inside kind at)
 
 pub returns-in_default-clause-read : goal.returns-in_default-clause-read
@@ -64,8 +64,8 @@ returns-in_default-clause-fault c =
     end_err c.end.result c.tokens.self c.tokens.into l.flags l.line l.rest.now c.args.self.now c.end.ensures.fault end
     c.tokens.invariant.taken
 
-pub returns-in_default-next_place-clause-fault : goal.returns-in_default-next_place-clause-fault
-returns-in_default-next_place-clause-fault c =
+pub returns-in_default-next_stage-clause-fault : goal.returns-in_default-next_stage-clause-fault
+returns-in_default-next_stage-clause-fault c =
     let next = rw c.in-Some.is at c.in_ok-token.ensures.next in
     let l = c.tokens.self.lexer in
     elim c.refuse.ensures [
@@ -73,16 +73,16 @@ returns-in_default-next_place-clause-fault c =
       | inr f ↦ inr (λ text entries had.
           let t = c.tokens.invariant.taken text entries had in
           f text (taken_refused text l.line c.next_token.new.self.line l.rest.now c.next_token.new.self.rest.now
-          (place_view c.tokens.self.place c.tokens.self.count) (map draft_of entries) (draft_of c.tokens.into)
+          (stage_view c.tokens.self.stage c.tokens.self.count) (map draft_of entries) (draft_of c.tokens.into)
           l.flags c.next_token.new.self.flags c.tokens.self.keyword_line c.in-Some.token
-          (string_of c.next_token.new.bytes) t next (rw c.as_slice.ensures at c.in_default-next_place.ensures)))
+          (string_of c.next_token.new.bytes) t next (rw c.as_slice.ensures at c.in_default-next_stage.ensures)))
     ]
 
 pub returns-then-branch-clause-read : goal.returns-then-branch-clause-read
 returns-then-branch-clause-read c text entries had =
     let next = rw c.in-Some.is at c.in_ok-token.ensures.next in
     let l = c.tokens.self.lexer in
-    let p = place_view c.tokens.self.place c.tokens.self.count in
+    let p = stage_view c.tokens.self.stage c.tokens.self.count in
     let e = c.tokens.into in
     let d = draft_of e in
     let t = c.tokens.invariant.taken text entries had in
@@ -99,7 +99,7 @@ pub tokens-preserved : goal.tokens-preserved
 tokens-preserved c =
     let next = rw c.in-Some.is at c.in_ok-token.ensures.next in
     let l = c.tokens.self.lexer in
-    let p = place_view c.tokens.self.place c.tokens.self.count in
+    let p = stage_view c.tokens.self.stage c.tokens.self.count in
     record {
       taken = λ text entries had.
           let t = c.tokens.invariant.taken text entries had in

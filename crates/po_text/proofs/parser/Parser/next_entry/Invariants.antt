@@ -3,14 +3,14 @@ use Rattle.po_text.specs.Entries.{Entry}
 use Rattle.po_text.specs.Building.{draft_of}
 use Rattle.po_text.specs.Parsing.{HasParsed, HasTakenTo}
 use Rattle.po_text.specs.Buffers.{HasForm}
-use Rattle.po_text.specs.Places.{place_view}
+use Rattle.po_text.specs.Stages.{stage_view}
 use Rattle.po_text.proofs.parser.Parser.next_entry.Given as goal
 
 abbrev pub invariant-tokens : goal.invariant-tokens
 invariant-tokens l = record {
   taken : (text : List ℕ) (entries : List Entry) → HasParsed text entries l.initial.self
       → HasTakenTo text (map draft_of entries) (draft_of l.into) l.self;
-  form : HasForm (place_view l.self.place l.self.count) (draft_of l.into);
+  form : HasForm (stage_view l.self.stage l.self.count) (draft_of l.into);
   not_finished : l.self.finished ≡ false;
   lines : l.self.lexer.line + length l.self.lexer.rest.now ≤ l.initial.self.lexer.line + length
       l.initial.self.lexer.rest.now;

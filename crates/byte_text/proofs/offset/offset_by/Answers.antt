@@ -1,6 +1,6 @@
 use Rattle.std.proofs.Common.{◌-◌, length, arith}
-use Rattle.byte_text.proofs.Places.{none_below, found_there, found_nowhere}
-use Rattle.byte_text.proofs.place.place_by.Goals as goal
+use Rattle.byte_text.proofs.Offsets.{none_below, found_there, found_nowhere}
+use Rattle.byte_text.proofs.offset.offset_by.Goals as goal
 
 pub returns-then-run : goal.returns-then-run
 returns-then-run g c =

@@ -1,5 +1,5 @@
 use Rattle.std.proofs.Common.{rules}
-use Rattle.po_text.proofs.places.holds_four.Goals as goal
+use Rattle.byte_text.proofs.offset.offset_in.Goals as goal
 
 pub returns : goal.returns
 returns c = search rules

@@ -1,30 +1,30 @@
--- Private: the places in the grammar of entries, and where each token leads.
+-- Private: the stages in the grammar of entries, and where each token leads.
 use Rattle.std.specs.Prelude.{ℕ, ◌+◌, Bool, List, Option, Some, None, ◌==◌, nat_eq, if◌then◌else◌}
 use Rattle.std.specs.List.{list_any}
-use Rattle.po_text.specs.declared.places.Place as code
-use Rattle.po_text.specs.declared.places.Place.TheVariants as places
+use Rattle.po_text.specs.declared.stages.Stage as code
+use Rattle.po_text.specs.declared.stages.Stage.TheVariants as stages
 use Rattle.po_text.specs.declared.lexer.Token as code_token
 use Rattle.po_text.specs.declared.lexer.Token.TheVariants as kinds
 use Rattle.po_text.specs.Spelling.{Token, Context, Id, Plural, Str, Number, Open, Close, Text}
 
-pub data Place : Type 0 where
-  Start : Place
-  ContextWord : Place
-  ContextText : Place
-  IdWord : Place
-  IdText : Place
-  FormWord : Place
-  FormText : Place
-  PluralWord : Place
-  PluralText : Place
-  IndexOpen : (k : ℕ) → Place
-  IndexNumber : (k : ℕ) → Place
-  IndexClose : (k : ℕ) → Place
-  IndexedWord : (k : ℕ) → Place
-  IndexedText : (k : ℕ) → Place
+pub data Stage : Type 0 where
+  Start : Stage
+  ContextWord : Stage
+  ContextText : Stage
+  IdWord : Stage
+  IdText : Stage
+  FormWord : Stage
+  FormText : Stage
+  PluralWord : Stage
+  PluralText : Stage
+  IndexOpen : (k : ℕ) → Stage
+  IndexNumber : (k : ℕ) → Stage
+  IndexClose : (k : ℕ) → Stage
+  IndexedWord : (k : ℕ) → Stage
+  IndexedText : (k : ℕ) → Stage
 
--- places where an entry may begin
-abbrev pub IsBoundary : Place → Type 0
+-- stages where an entry may begin
+abbrev pub IsBoundary : Stage → Type 0
 IsBoundary Start = Unit {0}
 IsBoundary FormText = Unit {0}
 IsBoundary (IndexedText k) = Unit {0}
@@ -33,16 +33,16 @@ IsBoundary _ = ⊥
 abbrev pub has_four : List ℕ → Bool
 has_four bytes = list_any (nat_eq 4) bytes
 
--- the place after a token that opens an entry
-abbrev pub opening : Token → Option Place
+-- the stage after a token that opens an entry
+abbrev pub opening : Token → Option Stage
 opening Context = Some ContextWord
 opening Id = Some IdWord
 opening t = None
 
-abbrev pub key_text : List ℕ → Place → Option Place
+abbrev pub key_text : List ℕ → Stage → Option Stage
 key_text bytes p = if has_four bytes then None else Some p
 
-unfoldable pub step : Place → Token → Option Place
+unfoldable pub step : Stage → Token → Option Stage
 step Start t = opening t
 step ContextWord (Text bytes) = key_text bytes ContextText
 step ContextWord t = None
@@ -76,25 +76,25 @@ step (IndexedText k) (Text bytes) = Some (IndexedText k)
 step (IndexedText k) Str = Some (IndexOpen (k + 1))
 step (IndexedText k) t = opening t
 
--- the specification's place for the code's place, if k forms of the entry are complete
-abbrev pub place_view : code.Place → ℕ → Place
-place_view places.Start k = Start
-place_view places.ContextWord k = ContextWord
-place_view places.ContextText k = ContextText
-place_view places.IdWord k = IdWord
-place_view places.IdText k = IdText
-place_view places.FormWord k = FormWord
-place_view places.FormText k = FormText
-place_view places.PluralWord k = PluralWord
-place_view places.PluralText k = PluralText
-place_view places.IndexOpen k = IndexOpen k
-place_view places.IndexNumber k = IndexNumber k
-place_view places.IndexClose k = IndexClose k
-place_view places.IndexedWord k = IndexedWord k
-place_view places.IndexedText k = IndexedText k
+-- the specification's stage for the code's stage, if k forms of the entry are complete
+abbrev pub stage_view : code.Stage → ℕ → Stage
+stage_view stages.Start k = Start
+stage_view stages.ContextWord k = ContextWord
+stage_view stages.ContextText k = ContextText
+stage_view stages.IdWord k = IdWord
+stage_view stages.IdText k = IdText
+stage_view stages.FormWord k = FormWord
+stage_view stages.FormText k = FormText
+stage_view stages.PluralWord k = PluralWord
+stage_view stages.PluralText k = PluralText
+stage_view stages.IndexOpen k = IndexOpen k
+stage_view stages.IndexNumber k = IndexNumber k
+stage_view stages.IndexClose k = IndexClose k
+stage_view stages.IndexedWord k = IndexedWord k
+stage_view stages.IndexedText k = IndexedText k
 
--- the number of complete forms after this token at this place, if there were k before it
-abbrev pub next_count : code.Place → code_token.Token → ℕ → ℕ
-next_count places.PluralText t k = 0
-next_count places.IndexedText kinds.Str k = k + 1
+-- the number of complete forms after this token at this stage, if there were k before it
+abbrev pub next_count : code.Stage → code_token.Token → ℕ → ℕ
+next_count stages.PluralText t k = 0
+next_count stages.IndexedText kinds.Str k = k + 1
 next_count _ _ k = k

@@ -3,7 +3,7 @@ use Rattle.std.specs.Int.{w8}
 use Rattle.std.proofs.lemmas.Simd.{bitmask_splat, first_set_mask_l, length-chunk}
 use lib.Lanes.{chunk}
 use Rattle.byte_text.specs.Lanes.{first_set}
-use Rattle.byte_text.proofs.place.lanes_before.Goals as goal
+use Rattle.byte_text.proofs.offset.lanes_before.Goals as goal
 
 pub returns : goal.returns
 returns g c =

@@ -3,7 +3,7 @@ use Rattle.std.specs.Prelude.{option_map}
 use Rattle.std.specs.Str.{bytes_eq}
 use Rattle.mo_image.specs.Entry.{key, key_bytes}
 use Rattle.entry_search.proofs.Found.{found_by_slot}
-use Rattle.entry_search.proofs.find.entry_at_place.Goals as goal
+use Rattle.entry_search.proofs.find.entry_at_slot.Goals as goal
 
 pub returns-then-has_key : goal.returns-then-has_key
 returns-then-has_key c =

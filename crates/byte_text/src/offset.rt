@@ -33,7 +33,7 @@ fn lanes_before<const N: usize>(bytes: &[u8], at: usize, byte: u8) -> usize
 
 /// The index of the first such byte, found by vectors of N lanes. The last vector may overlap the one before it.
 #[inline(always)]
-fn place_by<const N: usize>(bytes: &[u8], byte: u8) -> Option<usize>
+fn offset_by<const N: usize>(bytes: &[u8], byte: u8) -> Option<usize>
     requires some { 0 < N }
     requires few { N ≤ 64 }
     requires room { N ≤ length bytes.now }
@@ -53,7 +53,7 @@ fn place_by<const N: usize>(bytes: &[u8], byte: u8) -> Option<usize>
 }
 
 /// The index of the first such byte, found one byte at a time.
-fn place_by_bytes(bytes: &[u8], byte: u8) -> Option<usize>
+fn offset_by_bytes(bytes: &[u8], byte: u8) -> Option<usize>
     ensures { IsFirstByte (is_byte byte) bytes.now result }
 {
     for (i, other) in bytes.iter().enumerate() {
@@ -65,14 +65,14 @@ fn place_by_bytes(bytes: &[u8], byte: u8) -> Option<usize>
 }
 
 /// The index of the first such byte, if there is one.
-pub(crate) fn place_in(bytes: &[u8], byte: u8) -> Option<usize>
+pub(crate) fn offset_in(bytes: &[u8], byte: u8) -> Option<usize>
     ensures { IsFirstByte (is_byte byte) bytes.now result }
 {
     if bytes.len() >= 16 {
-        return place_by::<16>(bytes, byte);
+        return offset_by::<16>(bytes, byte);
     }
     if bytes.len() >= 8 {
-        return place_by::<8>(bytes, byte);
+        return offset_by::<8>(bytes, byte);
     }
-    place_by_bytes(bytes, byte)
+    offset_by_bytes(bytes, byte)
 }

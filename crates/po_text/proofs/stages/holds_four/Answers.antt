@@ -1,5 +1,5 @@
 use Rattle.std.proofs.Common.{rules}
-use Rattle.byte_text.proofs.place.place_in.Goals as goal
+use Rattle.po_text.proofs.stages.holds_four.Goals as goal
 
 pub returns : goal.returns
 returns c = search rules
