@@ -14,12 +14,12 @@ use Rattle.std.proofs.lemmas.List.Concat.{flat_map-cons}
 use Rattle.std.proofs.lemmas.List.Sums.{sum_by-cons}
 use Rattle.mo_image.specs.Entry.{Entry, key, translation}
 use Rattle.mo_image.specs.Map.{Rises, first_form, header_text, HasAcceptedCharset}
-use Rattle.mo_image.specs.MoFile.{closed, pool, spelling, entry_size}
+use Rattle.mo_image.specs.MoFile.{with_nul, pool, spelling, entry_size}
 use Rattle.catalogue.specs.Messages.{message_entry, messages_of}
 use Rattle.catalogue.specs.Sizes.{capped}
 use Rattle.catalogue.specs.Accepted.{is_below, is_header}
 use Rattle.catalogue.specs.declared.sorted.Message.{Message}
-use Rattle.mo_image.proofs.MoLengths.{length-closed, closed_joined}
+use Rattle.mo_image.proofs.MoLengths.{length-with_nul, joined_with_nul}
 use Rattle.mo_image.proofs.FileSizes.{file_size}
 
 -- ---- tests of each message
@@ -128,20 +128,20 @@ pub pool_size : (forms : List (String Global)) → length (pool (map (λ s. stri
     ≡ sum_by form_size forms
 pool_size [] = refl
 pool_size (s ∷ forms) =
-    let e = ap length (flat_map-cons closed (string_bytes s) (map (λ t. string_bytes t) forms))
-    ∙ length-append (closed (string_bytes s)) (pool (map (λ t. string_bytes t) forms)) in
-    omega (arith, e, pool_size forms, length-closed (string_bytes s), sum_by-cons form_size s forms)
+    let e = ap length (flat_map-cons with_nul (string_bytes s) (map (λ t. string_bytes t) forms))
+    ∙ length-append (with_nul (string_bytes s)) (pool (map (λ t. string_bytes t) forms)) in
+    omega (arith, e, pool_size forms, length-with_nul (string_bytes s), sum_by-cons form_size s forms)
 
 -- a translation has its NUL even without a form
-pub translation_size : (e : Entry) → length (closed (translation e)) ≡ max (length (pool e.forms)) 1
+pub translation_size : (e : Entry) → length (with_nul (translation e)) ≡ max (length (pool e.forms)) 1
 translation_size e = of e.forms
   where
-    of : (forms : List (List ℕ)) → length (closed (join_with_byte 0 forms)) ≡ max (length (pool forms)) 1
+    of : (forms : List (List ℕ)) → length (with_nul (join_with_byte 0 forms)) ≡ max (length (pool forms)) 1
     of [] = refl
     of (f ∷ fs) =
-        let same = ap length (closed_joined (f ∷ fs) (omega arith)) in
-        let some = ap length (flat_map-cons closed f fs) ∙ length-append (closed f) (pool fs) in
-        omega (arith, same, some, length-closed f)
+        let same = ap length (joined_with_nul (f ∷ fs) (omega arith)) in
+        let some = ap length (flat_map-cons with_nul f fs) ∙ length-append (with_nul f) (pool fs) in
+        omega (arith, same, some, length-with_nul f)
 
 map_size : (ms : List Message) → sum_by entry_size (messages_of ms) ≡ sum_by message_size ms
 map_size [] = refl

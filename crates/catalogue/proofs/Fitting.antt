@@ -10,14 +10,14 @@ use Rattle.po_text.specs.Entries as po
 use Rattle.po_text.specs.Outcome.{Gives}
 use Rattle.po_text.proofs.Sizes.{option_size, forms_size, entry_size, entries_size, gives_count, gives_size}
 use Rattle.mo_image.specs.Entry.{Entry, key_bytes, with_plural, original, translation}
-use Rattle.mo_image.specs.MoFile.{closed, pool, spelling, entry_size as size}
+use Rattle.mo_image.specs.MoFile.{with_nul, pool, spelling, entry_size as size}
 use Rattle.po_checks.specs.Kept.{message_of, is_kept}
 use Rattle.catalogue.specs.Drafts.{Outline, outline_of, outlines_from, kept_entry, texts_if_kept, texts_of}
 use Rattle.catalogue.specs.Spans.{bytes_if_kept, kept_bytes, plural_bytes, span_of, stored, HasGathered}
 use Rattle.catalogue.specs.declared.spans.Span.{Span}
 use Rattle.po_checks.specs.declared.findings.Findings.{Findings}
 use Rattle.po_checks.specs.declared.options.Options.{Options}
-use Rattle.mo_image.proofs.MoLengths.{length-closed, closed_joined}
+use Rattle.mo_image.proofs.MoLengths.{length-with_nul, joined_with_nul}
 use Rattle.mo_image.proofs.FileSizes.{file_size}
 use Rattle.mo_image.proofs.EntryParts.{some_form}
 use Rattle.catalogue.proofs.InOrder.{AreOrdered, length-outlines_from}
@@ -36,15 +36,15 @@ original_size k (Some plural) = omega (arith, length-append k (0 ∷ plural))
 pool_size : (forms : List (List ℕ)) → length (pool forms) ≡ forms_size forms
 pool_size [] = refl
 pool_size (form ∷ forms) =
-    let e = ap length (flat_map-cons closed form forms) ∙ length-append (closed form) (pool forms) in
-    omega (arith, e, pool_size forms, length-closed form)
+    let e = ap length (flat_map-cons with_nul form forms) ∙ length-append (with_nul form) (pool forms) in
+    omega (arith, e, pool_size forms, length-with_nul form)
 
 message_size : (e : po.Entry) → Lawful e → size (message_of e) ≡ entry_size e
 message_size e lawful =
-    let t = ap length (closed_joined e.forms (some_form e.plural e.forms lawful.counted)) in
+    let t = ap length (joined_with_nul e.forms (some_form e.plural e.forms lawful.counted)) in
     omega (
       arith,
-      length-closed (original (message_of e)),
+      length-with_nul (original (message_of e)),
       original_size (key_bytes e.context e.id) e.plural,
       key_size
           e.context e.id,
@@ -110,13 +110,13 @@ plural_fits (Some plural) = omega arith
 
 kept_fits : (e : po.Entry) → Lawful e → length (kept_bytes (texts_of e)) ≤ option_size e.plural + forms_size e.forms
 kept_fits e lawful =
-    let t = ap length (closed_joined e.forms (some_form e.plural e.forms lawful.counted)) in
+    let t = ap length (joined_with_nul e.forms (some_form e.plural e.forms lawful.counted)) in
     omega (
       arith,
       length-append (plural_bytes e.plural) (translation (message_of e)),
       plural_fits e.plural,
       t,
-      length-closed (translation (message_of e)),
+      length-with_nul (translation (message_of e)),
       pool_size e.forms,
     )
 

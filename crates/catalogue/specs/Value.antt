@@ -6,7 +6,7 @@ use Rattle.po_header.specs.Rule.{Rule, form_index}
 pub use Rattle.po_header.specs.Rule.{HasRuleIn}
 use Rattle.mo_image.specs.Entry.{Entry}
 use Rattle.mo_image.specs.Map.{entry_at, header_text}
-use Rattle.mo_image.specs.MoFile.{closed}
+use Rattle.mo_image.specs.MoFile.{with_nul}
 
 -- the entry of a key, and the map that it was found in
 abbrev pub IsFoundAt : List Entry → List ℕ → Option (Bor (List Entry) × Entry) → Type 0
@@ -55,11 +55,11 @@ IsTranslated m (Some e) n None = ⊥
 IsTranslated m (Some e) n (Some text) = IsAskedForm m n e.forms text
 
 -- the form that is asked for as a C string: followed by a NUL
-abbrev pub IsClosedFormFor : List Entry → Option ℕ → List (List ℕ) → List ℕ → Type 0
-IsClosedFormFor m n forms bytes = (text : List ℕ) × IsAskedForm m n forms text × (bytes ≡ closed text)
+abbrev pub IsFormWithNulFor : List Entry → Option ℕ → List (List ℕ) → List ℕ → Type 0
+IsFormWithNulFor m n forms bytes = (text : List ℕ) × IsAskedForm m n forms text × (bytes ≡ with_nul text)
 
 -- the form of the entry that was found as a C string, or none if there is no entry
-abbrev pub IsTranslatedClosed : List Entry → Option Entry → Option ℕ → Option (List ℕ) → Type 0
-IsTranslatedClosed m None n bytes = bytes ≡ None
-IsTranslatedClosed m (Some e) n None = ⊥
-IsTranslatedClosed m (Some e) n (Some bytes) = IsClosedFormFor m n e.forms bytes
+abbrev pub IsTranslatedWithNul : List Entry → Option Entry → Option ℕ → Option (List ℕ) → Type 0
+IsTranslatedWithNul m None n bytes = bytes ≡ None
+IsTranslatedWithNul m (Some e) n None = ⊥
+IsTranslatedWithNul m (Some e) n (Some bytes) = IsFormWithNulFor m n e.forms bytes

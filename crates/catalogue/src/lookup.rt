@@ -3,7 +3,7 @@ ghost use Rattle.std.specs.Prelude.{◌≡◌, ◌<◌, ℕ, List, length, slice
 ghost use Rattle.mo_image.specs.Entry.{key_bytes};
 ghost use Rattle.mo_image.specs.Map.{entry_at};
 ghost use Rattle.catalogue.specs.Value.{IsAskedForm, IsCounted, IsFirstForm, IsFormFor, IsFoundAt, IsMapFormFor};
-ghost use Rattle.catalogue.specs.Value.{IsClosedFormFor, IsTranslated, IsTranslatedClosed, text_by};
+ghost use Rattle.catalogue.specs.Value.{IsFormWithNulFor, IsTranslated, IsTranslatedWithNul, text_by};
 ghost use Rattle.po_header.specs.Rules.{rule_of};
 
 use crate::Catalogue;
@@ -143,45 +143,45 @@ impl Catalogue {
     /// Returns a form of an entry of this catalogue, followed by a NUL, which makes it a C string: the first form or,
     /// with a number, the form that the rule selects.
     #[inline(always)]
-    pub fn closed_form_for<'a>(&self, entry: &EntryRef<'a>, n: Option<u64>) -> &'a [u8]
-        ensures { IsClosedFormFor self.now n entry.now.forms result.now }
+    pub fn form_with_nul_for<'a>(&self, entry: &EntryRef<'a>, n: Option<u64>) -> &'a [u8]
+        ensures { IsFormWithNulFor self.now n entry.now.forms result.now }
     {
         // Calling `translation` tells the prover that the entry is lawful, and so has a form.
         let _translation = entry.translation();
-        entry.closed_form(self.asked_form_index(entry, n))
+        entry.form_with_nul(self.asked_form_index(entry, n))
     }
 
     /// Translates a message by its bytes, which needn't be UTF-8, as `translated` does; the result is a C string.
     /// `None` means that there is no such entry, so an empty translation differs from none.
     #[inline(always)]
-    pub fn translated_closed(
+    pub fn translated_with_nul(
         &self,
         context: Option<&[u8]>,
         id: &[u8],
         n: Option<u64>,
     ) -> Option<&[u8]>
-        ensures { IsTranslatedClosed self.now
+        ensures { IsTranslatedWithNul self.now
             (entry_at self.now (key_bytes (option_map (λ s. s.now) context.entry) id.now))
             n (option_map (λ s. s.now) result) }
     {
         let entry = self.find_bytes(context, id)?;
-        Some(self.closed_form_for(&entry, n))
+        Some(self.form_with_nul_for(&entry, n))
     }
 
-    /// Translates a message as `translated_closed` does, whatever the hint is (`hint`).
+    /// Translates a message as `translated_with_nul` does, whatever the hint is (`hint`).
     #[inline(always)]
-    pub fn translated_closed_hinted(
+    pub fn translated_with_nul_hinted(
         &self,
         context: Option<&[u8]>,
         id: &[u8],
         n: Option<u64>,
         hint: u64,
     ) -> Option<&[u8]>
-        ensures { IsTranslatedClosed self.now
+        ensures { IsTranslatedWithNul self.now
             (entry_at self.now (key_bytes (option_map (λ s. s.now) context.entry) id.now))
             n (option_map (λ s. s.now) result) }
     {
         let entry = self.find_hinted(context, id, hint)?;
-        Some(self.closed_form_for(&entry, n))
+        Some(self.form_with_nul_for(&entry, n))
     }
 }

@@ -166,7 +166,7 @@ impl Catalogue {
         self.entries.find_asked(asked)
     }
 
-    /// Returns a hint for `find_hinted` and `translated_closed_hinted`: where the index should have the entry of this
+    /// Returns a hint for `find_hinted` and `translated_with_nul_hinted`: where the index should have the entry of this
     /// key. To look up many keys, first get the hints of all of them: a processor waits for the index's memory for
     /// several of them at once.
     #[inline(always)]

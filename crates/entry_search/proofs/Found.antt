@@ -18,7 +18,7 @@ use Rattle.mo_image.specs.MoFile.{spelling}
 use Rattle.mo_image.specs.Extents.{AreExtentsOf}
 use Rattle.entry_search.specs.declared.slot_table.Slot.{Slot}
 use Rattle.entry_search.proofs.Searching.{apart, few_steps, find_none, find_some, greater_ne, less_ne, some_is}
-use Rattle.mo_image.proofs.Lists.{at_place}
+use Rattle.mo_image.proofs.Lists.{at_index}
 
 pub differs_unless : (k asked : List ℕ) → (bytes_eq k asked ≡ true → ⊥) → bytes_eq k asked ≡ false
 differs_unless k asked never = elim (bytes_eq k asked) as (λ r. bytes_eq k asked ≡ r → r ≡ false) [
@@ -30,7 +30,7 @@ differs_unless k asked never = elim (bytes_eq k asked) as (λ r. bytes_eq k aske
 slot_of_key : (m : List Entry) (index : IndexValue) (asked : List ℕ) (h : ℕ) (j : ℕ) (d : Entry) → IsIndex m index
     → FindsBy asked h → slice_get m j ≡ Some d → bytes_eq (key d) asked ≡ true → HasSlotOf m index.slots j h
 slot_of_key m index asked h j d is finds here same =
-    is.names.each j d here h (finds d (at_place IsLawfulEntry m j d is.lawful.each here)
+    is.names.each j d here h (finds d (at_index IsLawfulEntry m j d is.lawful.each here)
     ((bytes_eq-Decides (key d) asked).0 same))
 
 pub absent_without_slot : (m : List Entry) (value : IndexValue) (asked : List ℕ) (h : ℕ) → IsIndex m value

@@ -4,7 +4,7 @@ use Rattle.std.specs.Option.{option_map_or}
 use Rattle.std.specs.Arc.{arc_value}
 use Rattle.mo_image.specs.Entry.{Entry, key_bytes}
 use Rattle.mo_image.specs.Map.{entry_at}
-use Rattle.catalogue.specs.Value.{IsTranslatedClosed}
+use Rattle.catalogue.specs.Value.{IsTranslatedWithNul}
 use Rattle.kobdzila_c.specs.declared.opened.Opened.{Opened}
 use Rattle.kobdzila_c.specs.Numbers.{pgettext, ngettext, npgettext}
 
@@ -48,4 +48,4 @@ key_of q = key_bytes (context_of q.call q.context) q.id
 -- the string of the entry that is looked up, with its terminating NUL, or no bytes if there is no such entry; bytes
 -- that aren't UTF-8 are no entry's key
 abbrev pub IsClosedAnswer : List Entry → Question → List ℕ → Type 0
-IsClosedAnswer m q text = IsTranslatedClosed m (entry_at m (key_of q)) (number_of q.call q.n) (some_of text)
+IsClosedAnswer m q text = IsTranslatedWithNul m (entry_at m (key_of q)) (number_of q.call q.n) (some_of text)

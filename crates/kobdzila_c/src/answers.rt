@@ -71,9 +71,9 @@ pub(crate) fn answer<'k>(
     };
     let (context, n) = (context_in(call, context), number_in(call, n));
     let found = if hint == NO_HINT {
-        catalogue.translated_closed(context, id, n)
+        catalogue.translated_with_nul(context, id, n)
     } else {
-        catalogue.translated_closed_hinted(context, id, n, hint)
+        catalogue.translated_with_nul_hinted(context, id, n, hint)
     };
     match found {
         Some(text) => text,

@@ -59,9 +59,9 @@ fn answer_at<'k>(
     let context = context_in(call, context);
     let n = number_in(call, n);
     let found = if hint == NO_HINT {
-        set.translated_closed_at(places, context, id, n)
+        set.translated_with_nul_at(places, context, id, n)
     } else {
-        set.translated_closed_hinted(places, context, id, n, hint)
+        set.translated_with_nul_hinted(places, context, id, n, hint)
     };
     match found {
         Some(text) => text,

@@ -237,7 +237,7 @@ fn answer_in<'k>(
     };
     let context = context_in(call, context);
     let n = number_in(call, n);
-    match set.translated_closed(domain, languages, context, id, n) {
+    match set.translated_with_nul(domain, languages, context, id, n) {
         Some(text) => text,
         None => &[],
     }

@@ -2,7 +2,7 @@
 ghost use Rattle.std.specs.Prelude.{◌≡◌, option_map};
 ghost use Rattle.catalogue.specs.Entry.{key_bytes};
 ghost use Rattle.catalogue.specs.Map.{entry_at};
-ghost use Rattle.catalogue.specs.Value.{IsTranslatedClosed};
+ghost use Rattle.catalogue.specs.Value.{IsTranslatedWithNul};
 ghost use Rattle.live_set.specs.Asks.{HasFirstValue, Plain, Context, Number, ContextNumber, first_with, maps_named};
 ghost use Rattle.live_set.specs.FirstFound.{IsFoundIn};
 ghost use Rattle.live_set.specs.Sets.{map_in};
@@ -97,9 +97,9 @@ impl<'a> Languages<'a> {
         counted(self.find(&key_of(Some(context), id)), id, plural, n)
     }
 
-    /// The translation of a message as a C string, as `CatalogueSet::translated_closed` gives it. The bytes are
+    /// The translation of a message as a C string, as `CatalogueSet::translated_with_nul` gives it. The bytes are
     /// borrowed from the set alone.
-    pub fn translated_closed(
+    pub fn translated_with_nul(
         &self,
         context: Option<&[u8]>,
         id: &[u8],
@@ -107,9 +107,9 @@ impl<'a> Languages<'a> {
     ) -> Option<&'a [u8]>
         ensures { let key = key_bytes (option_map (λ s. s.now) context.entry) id.now in
             let m = first_with key self.now in
-            IsTranslatedClosed m (entry_at m key) n (option_map (λ s. s.now) result) }
+            IsTranslatedWithNul m (entry_at m key) n (option_map (λ s. s.now) result) }
     {
         let (catalogue, entry) = self.find(&AskedKey::new(context, id))?;
-        Some(catalogue.closed_form_for(&entry, n))
+        Some(catalogue.form_with_nul_for(&entry, n))
     }
 }

@@ -2,7 +2,7 @@
 ghost use Rattle.std.specs.Prelude.{◌≡◌, ◌<◌, ◌≤◌, [], ◌∷◌, map, option_map, MatchOption};
 ghost use Rattle.catalogue.specs.Entry.{key_bytes};
 ghost use Rattle.catalogue.specs.Map.{entry_at};
-ghost use Rattle.catalogue.specs.Value.{IsTranslatedClosed};
+ghost use Rattle.catalogue.specs.Value.{IsTranslatedWithNul};
 ghost use Rattle.live_set.specs.FirstFound.{IsFoundIn};
 ghost use Rattle.live_set.specs.LanguageList.{locales_of};
 ghost use Rattle.live_set.specs.SetPlaces.{IsListed, listed, map_among, map_at, most_places};
@@ -54,7 +54,7 @@ impl Places {
 
 impl CatalogueSet {
     /// The places of the catalogues that a list of languages names in a domain, in order, for more than one look-up in
-    /// the same languages (`translated_closed_at`). It doesn't allocate.
+    /// the same languages (`translated_with_nul_at`). It doesn't allocate.
     pub fn places(&self, domain: &str, languages: &str) -> Places
         ensures { IsListed self.now.held domain.now languages.now result }
     {
@@ -152,7 +152,7 @@ impl CatalogueSet {
         self.find_in_places(others, &AskedKey::new(context, id))
     }
 
-    /// Returns a hint for `translated_closed_hinted`: that of the catalogue at the first of these places.
+    /// Returns a hint for `translated_with_nul_hinted`: that of the catalogue at the first of these places.
     #[inline(always)]
     pub fn hint_at(&self, places: &[u32], context: Option<&[u8]>, id: &[u8]) -> u64 {
         let Some(place) = places.first() else {
@@ -164,9 +164,9 @@ impl CatalogueSet {
         }
     }
 
-    /// Like `translated_closed_at`, whatever the hint is.
+    /// Like `translated_with_nul_at`, whatever the hint is.
     #[inline(always)]
-    pub fn translated_closed_hinted(
+    pub fn translated_with_nul_hinted(
         &self,
         places: &[u32],
         context: Option<&[u8]>,
@@ -176,15 +176,15 @@ impl CatalogueSet {
     ) -> Option<&[u8]>
         ensures { let key = key_bytes (option_map (λ s. s.now) context.entry) id.now in
             let m = map_among self.now.held places.now key in
-            IsTranslatedClosed m (entry_at m key) n (option_map (λ s. s.now) result) }
+            IsTranslatedWithNul m (entry_at m key) n (option_map (λ s. s.now) result) }
     {
         let (catalogue, entry) = self.find_in_places_hinted(places, context, id, hint)?;
-        Some(catalogue.closed_form_for(&entry, n))
+        Some(catalogue.form_with_nul_for(&entry, n))
     }
 
-    /// Like `translated_closed`, from the first of these places whose catalogue has the message. A place where there is
-    /// no catalogue is passed over.
-    pub fn translated_closed_at(
+    /// Like `translated_with_nul`, from the first of these places whose catalogue has the message. A place where there
+    /// is no catalogue is passed over.
+    pub fn translated_with_nul_at(
         &self,
         places: &[u32],
         context: Option<&[u8]>,
@@ -193,8 +193,8 @@ impl CatalogueSet {
     ) -> Option<&[u8]>
         ensures { let key = key_bytes (option_map (λ s. s.now) context.entry) id.now in
             let m = map_among self.now.held places.now key in
-            IsTranslatedClosed m (entry_at m key) n (option_map (λ s. s.now) result) }
+            IsTranslatedWithNul m (entry_at m key) n (option_map (λ s. s.now) result) }
     {
-        self.translated_closed_hinted(places, context, id, n, NO_HINT)
+        self.translated_with_nul_hinted(places, context, id, n, NO_HINT)
     }
 }

@@ -6,7 +6,7 @@ ghost use Rattle.live_set.specs.Placing.{IsPlaceFor};
 ghost use Rattle.live_set.specs.Sets.{no_loads, map_in, HasAbsorbed, absorbed};
 ghost use Rattle.catalogue.specs.Entry.{key_bytes};
 ghost use Rattle.catalogue.specs.Map.{entry_at};
-ghost use Rattle.catalogue.specs.Value.{IsTranslatedClosed};
+ghost use Rattle.catalogue.specs.Value.{IsTranslatedWithNul};
 ghost use Rattle.live_set.specs.Asks.{HasAnswer, map_with, query_of, Plain, Context, Number, ContextNumber};
 
 use crate::runs::LoadRuns;
@@ -202,7 +202,7 @@ impl CatalogueSet {
     /// It comes from the first of the listed locales whose catalogue has the message: its first form, or, given a
     /// number, the form for that number by the catalogue's plural rule. Returns `None` exactly if no listed catalogue
     /// has the message. The bytes are borrowed from the set alone.
-    pub fn translated_closed(
+    pub fn translated_with_nul(
         &self,
         domain: &str,
         languages: &str,
@@ -212,10 +212,10 @@ impl CatalogueSet {
     ) -> Option<&[u8]>
         ensures { let key = key_bytes (option_map (λ s. s.now) context.entry) id.now in
             let m = map_with (map_in self.now.held) domain.now languages.now key in
-            IsTranslatedClosed m (entry_at m key) n (option_map (λ s. s.now) result) }
+            IsTranslatedWithNul m (entry_at m key) n (option_map (λ s. s.now) result) }
     {
         let key = AskedKey::new(context, id);
         let (catalogue, entry) = self.find_by_key(domain, languages, &key)?;
-        Some(catalogue.closed_form_for(&entry, n))
+        Some(catalogue.form_with_nul_for(&entry, n))
     }
 }

@@ -13,7 +13,7 @@ pub use Rattle.mo_image.proofs.Originals.{key_of_original, plural_of_original, e
 pub use Rattle.mo_image.proofs.Originals.{original_is, translation_is}
 use Rattle.mo_file.specs.MoReading.{before_nul, IsOriginalText, IsTranslationText, HasLawfulForms}
 use Rattle.mo_file.specs.Pairs.{plural_part, entry_of}
-use Rattle.mo_tables.proofs.Cuts.{is, place, holds, front_lacks, absent, count_none}
+use Rattle.mo_tables.proofs.Cuts.{is, offset, holds, front_lacks, absent, count_none}
 use Rattle.mo_tables.proofs.Cuts.{behind_lacks, LacksByte-take, LacksByte-drop}
 use Rattle.mo_tables.proofs.Cuts.{front_utf8, behind_utf8, parts_are_texts}
 
@@ -29,16 +29,16 @@ pub record IsKeyOf (k : List ℕ) (c : Option (List ℕ × List ℕ)) : Type 0 w
 key_texts_by : (k : List ℕ) → IsUtf8 k → LacksByte 0 k → count_by (is 4) k ≤ 1 → (test : Bool) → holds 4 k ≡ test
     → IsKeyOf k (cut_at 4 k test)
 key_texts_by k utf8 no_nul once true e =
-    let lt : place 4 k < length k = ltb-true _ _ e in
+    let lt : offset 4 k < length k = ltb-true _ _ e in
     record {
       context = record {
         utf8 = front_utf8 4 k (omega arith) utf8;
-        no_nul = LacksByte-take 0 (place 4 k) k no_nul;
+        no_nul = LacksByte-take 0 (offset 4 k) k no_nul;
         no_separator = front_lacks 4 k;
       };
       id = record {
         utf8 = behind_utf8 4 k (omega arith) utf8 lt;
-        no_nul = LacksByte-drop 0 (place 4 k + 1) k no_nul;
+        no_nul = LacksByte-drop 0 (offset 4 k + 1) k no_nul;
         no_separator = behind_lacks 4 k lt once;
       };
     }
@@ -51,7 +51,7 @@ key_texts_by k utf8 no_nul once false e = record {
 plural_text_by : (o : List ℕ) → IsUtf8 o → count_by (is 0) o ≤ 1 → (test : Bool) → holds 0 o ≡ test
     → IfSome (option_map (λ p. p.1) (cut_at 0 o test)) IsText
 plural_text_by o utf8 once true e =
-    let lt : place 0 o < length o = ltb-true _ _ e in
+    let lt : offset 0 o < length o = ltb-true _ _ e in
     record { utf8 = behind_utf8 0 o (omega arith) utf8 lt; no_nul = behind_lacks 0 o lt once }
 plural_text_by o utf8 once false e = tt
 
@@ -75,11 +75,11 @@ lawful_entry o t ot tt' forms =
     }
 
 -- where an original is cut
-pub plural_there : (o : List ℕ) → place 0 o < length o → plural_part o ≡ Some (after_first (is 0) o)
+pub plural_there : (o : List ℕ) → offset 0 o < length o → plural_part o ≡ Some (after_first (is 0) o)
 plural_there o lt = ap (λ (b : Bool). option_map (λ p. p.1) (cut_at 0 o b)) (lt-ltb _ _ lt)
 
-pub plural_absent : (o : List ℕ) → place 0 o ≡ length o → plural_part o ≡ None
+pub plural_absent : (o : List ℕ) → offset 0 o ≡ length o → plural_part o ≡ None
 plural_absent o e = ap (λ (b : Bool). option_map (λ p. p.1) (cut_at 0 o b)) (le-ltb _ _ (omega (arith, e)))
 
-pub key_alone : (o : List ℕ) → place 0 o ≡ length o → before_nul o ≡ o
-key_alone o e = take_all (place 0 o) o (omega (arith, e))
+pub key_alone : (o : List ℕ) → offset 0 o ≡ length o → before_nul o ≡ o
+key_alone o e = take_all (offset 0 o) o (omega (arith, e))

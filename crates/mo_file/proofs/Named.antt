@@ -46,7 +46,7 @@ header_accepted (e ∷ m) each = header_step e (entry_at m []) each.0 (header_ac
 
 module _ (number : ℕ → List ℕ → ℕ) (bytes : List ℕ) where
   abbrev at : ℕ → List ℕ
-  at place = string_at number bytes place
+  at offset = string_at number bytes offset
 
   abbrev named : ℕ → ℕ → ℕ → List Entry
   named o t n = named_rows number bytes o t n

@@ -11,11 +11,11 @@ use Rattle.catalogue.specs.Entry.{Entry, key, original, translation, IsLawfulEnt
 use Rattle.catalogue.specs.MoFile.{file, spelling}
 use Rattle.catalogue.specs.Map.{first_form, HasAcceptedCharset, IsLawful}
 use Rattle.mo_image.proofs.EntryParts.{key_lacks_nul, split_joined, some_form, lack_nul}
-use Rattle.mo_image.proofs.Lists.{slice_get-map, at_place}
+use Rattle.mo_image.proofs.Lists.{slice_get-map, at_index}
 use Rattle.entry_search.proofs.Searching.{rises_pair, find_some}
 use Rattle.mo_file.specs.Tables.{word_at, string_at, strings}
 use Rattle.mo_file.specs.MoReading.{table_at, count, originals_start, translations_start, file_by, order, before_nul}
-use Rattle.mo_file.specs.MoReading.{TableLies, AllClosed, AreOriginalTexts, AreTranslationTexts, HaveLawfulForms}
+use Rattle.mo_file.specs.MoReading.{TableLies, AllHaveNul, AreOriginalTexts, AreTranslationTexts, HaveLawfulForms}
 use Rattle.mo_file.specs.MoReading.{KeysRise, HaveLawfulHeaders, Fits, Passes, rank, Mo}
 use Rattle.mo_file.specs.declared.fault.MoFault.{MoFault}
 use Rattle.mo_file.specs.declared.fault.MoFault.TheVariants.{TooLarge, Short, Magic, Revision, Bounds, NoNul, BadText}
@@ -34,8 +34,8 @@ record AllPass (number : ℕ → List ℕ → ℕ) (bytes : List ℕ) (o t n : �
   revision : word_at number bytes 4 ≡ 0
   originals_lie : TableLies (table_at number bytes o n)
   translations_lie : TableLies (table_at number bytes t n)
-  originals_closed : AllClosed (table_at number bytes o n)
-  translations_closed : AllClosed (table_at number bytes t n)
+  originals_have_nul : AllHaveNul (table_at number bytes o n)
+  translations_have_nul : AllHaveNul (table_at number bytes t n)
   original_texts : AreOriginalTexts (table_at number bytes o n)
   translation_texts : AreTranslationTexts (table_at number bytes t n)
   forms : HaveLawfulForms (table_at number bytes o n) (table_at number bytes t n)
@@ -51,7 +51,7 @@ passed number bytes all Short below = all.long
 passed number bytes all Magic below = all.magic
 passed number bytes all Revision below = all.revision
 passed number bytes all Bounds below = (all.originals_lie, all.translations_lie)
-passed number bytes all NoNul below = (all.originals_closed, all.translations_closed)
+passed number bytes all NoNul below = (all.originals_have_nul, all.translations_have_nul)
 passed number bytes all BadText below = (all.original_texts, all.translation_texts)
 passed number bytes all Forms below = all.forms
 passed number bytes all Order below = all.rise
@@ -95,7 +95,7 @@ module _ (m : List Entry) (lawful : IsLawful m) where
       record {
         entry = e.0;
         found = e.1;
-        lawful_entry = at_place IsLawfulEntry m i e.0 lawful.each e.1;
+        lawful_entry = at_index IsLawfulEntry m i e.0 lawful.each e.1;
         of_original = named_at bytes 28 (map original m) i (original e.0) told.originals
             (slice_get-map original m i e.0 e.1);
         of_translation = named_at bytes t (map translation m) i (translation e.0) told.translations
@@ -153,8 +153,8 @@ module _ (m : List Entry) (lawful : IsLawful m) where
       strings = λ i lt.
           (row i lt).of_translation.lies;
     };
-    originals_closed = record { each = λ i lt. (row i lt).of_original.closed };
-    translations_closed = record { each = λ i lt. (row i lt).of_translation.closed };
+    originals_have_nul = record { each = λ i lt. (row i lt).of_original.with_nul };
+    translations_have_nul = record { each = λ i lt. (row i lt).of_translation.with_nul };
     original_texts = record {
       each = λ i lt. let r = row i lt in rw r.of_original.string
           (original_text r.entry r.lawful_entry);

@@ -6,13 +6,13 @@ use Rattle.mo_file.specs.MoReading.{order, file_of, Passes, rank, PassesBelow, R
 use Rattle.mo_file.specs.declared.fault.MoFault.{MoFault}
 use Rattle.mo_file.specs.Pairs.{named_in}
 use Rattle.mo_file.proofs.Named.{is_mo}
-use Rattle.mo_file.proofs.Ranking.{has_place, rank_one}
+use Rattle.mo_file.proofs.Ranking.{has_index, rank_one}
 
 -- ---- a file that no refusal applies to passes all tests
 
 passed_below : (bytes : List ℕ) (n : ℕ) → n < 12 → ((fault : MoFault) → rank fault < 12 → Refused bytes fault → ⊥)
     → (PassesBelow (file_of bytes) (n + 1) → ⊥) → ⊥
-passed_below bytes zero lt no_refusal none = none (λ fault less. let p = has_place fault in absurd
+passed_below bytes zero lt no_refusal none = none (λ fault less. let p = has_index fault in absurd
     (omega (arith, p.rank_is, less)))
 passed_below bytes (suc n) lt no_refusal none = passed_below bytes n (omega (arith, lt)) no_refusal
     (λ below. next below)

@@ -5,9 +5,9 @@ use Rattle.std.proofs.Math.Seq.{drop-cons, drop-length}
 use Rattle.std.proofs.lemmas.List.{get_or-drop, take-append-drop, length-drop, drop-drop, append-nil}
 use Rattle.std.proofs.lemmas.List.Concat.{flat_map-cons}
 use Rattle.byteorder.specs.Endian.{little_number}
-use Rattle.catalogue.specs.MoFile.{word, pairs, closed, pool, header, file, spelling}
+use Rattle.catalogue.specs.MoFile.{word, pairs, with_nul, pool, header, file, spelling}
 use Rattle.mo_file.specs.Tables.{word_at, string_at, strings}
-use Rattle.mo_file.specs.MoReading.{table_at, file_by, StringLies, IsClosed, TableLies, AllClosed, PassesBelow}
+use Rattle.mo_file.specs.MoReading.{table_at, file_by, StringLies, HasNul, TableLies, AllHaveNul, PassesBelow}
 use Rattle.mo_file.specs.declared.fault.MoFault.TheVariants.{Short, Magic, Revision, Bounds, NoNul}
 use Rattle.mo_file.specs.Pairs.{named_in}
 use Rattle.mo_file.proofs.Named.{at_words, named_words, spelling_named}
@@ -41,109 +41,110 @@ words_again (a ∷ b ∷ c ∷ d ∷ rest) each long = four a b c d rest (each 0
 
 module _ (bytes : List ℕ) (each : AreBytes bytes) where
   abbrev w : ℕ → ℕ
-  w place = word_at little_number bytes place
+  w offset = word_at little_number bytes offset
 
   abbrev at : ℕ → List ℕ
-  at place = string_at little_number bytes place
+  at offset = string_at little_number bytes offset
 
   abbrev all : ℕ → ℕ → List (List ℕ)
-  all place n = strings little_number bytes place n
+  all offset n = strings little_number bytes offset n
 
-  behind : (place : ℕ) → AreBytes (drop place bytes)
-  behind place i = omega (arith, get_or-drop place bytes i 0, each (place + i))
+  behind : (offset : ℕ) → AreBytes (drop offset bytes)
+  behind offset i = omega (arith, get_or-drop offset bytes i 0, each (offset + i))
 
-  -- the word at a place, and what follows it
-  word_here : (place : ℕ) → place + 4 ≤ length bytes → drop place bytes ≡ word (w place) ++ drop (place + 4) bytes
-  word_here place room =
-      sym (words_again (drop place bytes) (behind place) (omega (arith, length-drop place bytes, room)))
-      ∙ ap (λ (rest : List ℕ). word (w place) ++ rest) (drop-drop 4 place bytes)
+  -- the word at a offset, and what follows it
+  word_here : (offset : ℕ) → offset + 4 ≤ length bytes → drop offset bytes ≡ word (w offset) ++ drop (offset + 4) bytes
+  word_here offset room =
+      sym (words_again (drop offset bytes) (behind offset) (omega (arith, length-drop offset bytes, room)))
+      ∙ ap (λ (rest : List ℕ). word (w offset) ++ rest) (drop-drop 4 offset bytes)
 
-  -- the string of the row at a place with its NUL, and what follows it
-  string_here : (place start : ℕ) → w (place + 4) ≡ start → StringLies little_number bytes place
-      → IsClosed little_number bytes place
-      → drop start bytes ≡ closed (at place) ++ drop (start + w place + 1) bytes
-  string_here place start is lies nul =
-      let len : ℕ = w place in
+  -- the string of the row at a offset with its NUL, and what follows it
+  string_here : (offset start : ℕ) → w (offset + 4) ≡ start → StringLies little_number bytes offset
+      → HasNul little_number bytes offset
+      → drop start bytes ≡ with_nul (at offset) ++ drop (start + w offset + 1) bytes
+  string_here offset start is lies nul =
+      let len : ℕ = w offset in
       let end : ℕ = start + len in
       let s0 : drop start bytes ≡ take len (drop start bytes)
       ++ drop len (drop start bytes) = sym (take-append-drop len (drop start bytes)) in
-      let s1 : take len (drop start bytes) ≡ at place = ap (λ (k : ℕ). take len (drop k bytes)) (sym is) in
+      let s1 : take len (drop start bytes) ≡ at offset = ap (λ (k : ℕ). take len (drop k bytes)) (sym is) in
       let s2 : drop len (drop start bytes) ≡ drop end bytes = drop-drop len start bytes in
       let s3 : drop end bytes ≡ get_or bytes end 0 ∷ drop (suc end) bytes = drop-cons bytes end 0
       (omega (arith, lies, is)) in
       let s4 : get_or bytes end 0 ≡ 0 = ap (λ (k : ℕ). get_or bytes (k + len) 0) (sym is) ∙ nul in
       let s5 : suc end ≡ end + 1 = omega arith in
       s0 ∙ ap (λ (s : List ℕ). s ++ drop len (drop start bytes)) s1
-      ∙ ap (λ (r : List ℕ). at place ++ r) (s2 ∙ s3 ∙ ap (λ (b : ℕ). b ∷ drop (suc end) bytes) s4
+      ∙ ap (λ (r : List ℕ). at offset ++ r) (s2 ∙ s3 ∙ ap (λ (b : ℕ). b ∷ drop (suc end) bytes) s4
       ∙ ap (λ (k : ℕ). 0 ∷ drop k bytes) s5)
-      ∙ sym (append_assoc (at place) (0 ∷ []) (drop (end + 1) bytes))
+      ∙ sym (append_assoc (at offset) (0 ∷ []) (drop (end + 1) bytes))
 
   abbrev Lies : ℕ → ℕ → Type 0
-  Lies place other = StringLies little_number bytes place
+  Lies offset other = StringLies little_number bytes offset
 
-  abbrev Closed : ℕ → ℕ → Type 0
-  Closed place other = IsClosed little_number bytes place
+  abbrev Nul : ℕ → ℕ → Type 0
+  Nul offset other = HasNul little_number bytes offset
 
-  pub table_again : (place n start end : ℕ) → place + 8 * n ≤ length bytes
-      → ((i : ℕ) → i < n → Lies (place + 8 * i) (place + 8 * i)) → StandBehind bytes place n start end
-      → drop place bytes ≡ pairs start (all place n) ++ drop (place + 8 * n) bytes
-  table_again place zero start end room lies stand = ap (λ (k : ℕ). drop k bytes) (omega arith)
-  table_again place (suc n) start end room lies stand =
-      let lie : StringLies little_number bytes place = first_row Lies place place n lies in
-      let len : length (at place) ≡ w place = length-string little_number bytes place lie in
-      let four : place + 4 + 4 ≡ place + 8 = omega arith in
-      let next : place + 8 + 8 * n ≡ place + 8 * suc n = omega arith in
-      let rest : drop (place + 8) bytes ≡ pairs (start + w place + 1) (all (place + 8) n)
-      ++ drop (place + 8 + 8 * n) bytes =
-      table_again (place + 8) n (start + w place + 1) end (omega (arith, room)) (later_rows Lies place place n lies)
+  pub table_again : (offset n start end : ℕ) → offset + 8 * n ≤ length bytes
+      → ((i : ℕ) → i < n → Lies (offset + 8 * i) (offset + 8 * i)) → StandBehind bytes offset n start end
+      → drop offset bytes ≡ pairs start (all offset n) ++ drop (offset + 8 * n) bytes
+  table_again offset zero start end room lies stand = ap (λ (k : ℕ). drop k bytes) (omega arith)
+  table_again offset (suc n) start end room lies stand =
+      let lie : StringLies little_number bytes offset = first_row Lies offset offset n lies in
+      let len : length (at offset) ≡ w offset = length-string little_number bytes offset lie in
+      let four : offset + 4 + 4 ≡ offset + 8 = omega arith in
+      let next : offset + 8 + 8 * n ≡ offset + 8 * suc n = omega arith in
+      let rest : drop (offset + 8) bytes ≡ pairs (start + w offset + 1) (all (offset + 8) n)
+      ++ drop (offset + 8 + 8 * n) bytes =
+      table_again (offset + 8) n (start + w offset + 1) end (omega (arith, room)) (later_rows Lies offset offset n lies)
       stand.1 in
-      let s0 : drop place bytes ≡ word (w place) ++ drop (place + 4) bytes = word_here place (omega (arith, room)) in
-      let s1 : drop (place + 4) bytes ≡ word (w (place + 4))
-      ++ drop (place + 4 + 4) bytes = word_here (place + 4) (omega (arith, room)) in
-      let s2 : drop (place + 4) bytes ≡ word start ++ drop (place + 8) bytes = s1
-      ∙ ap (λ (k : ℕ). word k ++ drop (place + 4 + 4) bytes) stand.0
+      let s0 : drop offset bytes ≡ word (w offset) ++ drop (offset + 4) bytes = word_here offset
+      (omega (arith, room)) in
+      let s1 : drop (offset + 4) bytes ≡ word (w (offset + 4))
+      ++ drop (offset + 4 + 4) bytes = word_here (offset + 4) (omega (arith, room)) in
+      let s2 : drop (offset + 4) bytes ≡ word start ++ drop (offset + 8) bytes = s1
+      ∙ ap (λ (k : ℕ). word k ++ drop (offset + 4 + 4) bytes) stand.0
       ∙ ap (λ (k : ℕ). word start ++ drop k bytes) four in
-      let s3 : drop place bytes ≡ word (length (at place)) ++
-      (word start ++ (pairs (start + length (at place) + 1) (all (place + 8) n) ++ drop (place + 8 * suc n) bytes))
+      let s3 : drop offset bytes ≡ word (length (at offset)) ++
+      (word start ++ (pairs (start + length (at offset) + 1) (all (offset + 8) n) ++ drop (offset + 8 * suc n) bytes))
       =
-      s0 ∙ ap (λ (r : List ℕ). word (w place) ++ r) (s2 ∙ ap (λ (r : List ℕ). word start ++ r)
-      (rest ∙ ap (λ (k : ℕ). pairs (start + w place + 1) (all (place + 8) n) ++ drop k bytes) next))
-      ∙ ap (λ (k : ℕ). word k ++ (word start ++ (pairs (start + k + 1) (all (place + 8) n)
-      ++ drop (place + 8 * suc n) bytes))) (sym len) in
+      s0 ∙ ap (λ (r : List ℕ). word (w offset) ++ r) (s2 ∙ ap (λ (r : List ℕ). word start ++ r)
+      (rest ∙ ap (λ (k : ℕ). pairs (start + w offset + 1) (all (offset + 8) n) ++ drop k bytes) next))
+      ∙ ap (λ (k : ℕ). word k ++ (word start ++ (pairs (start + k + 1) (all (offset + 8) n)
+      ++ drop (offset + 8 * suc n) bytes))) (sym len) in
       s3 ∙ simp append_assoc
 
-  pub strings_again : (place n start end : ℕ) → ((i : ℕ) → i < n → Lies (place + 8 * i) (place + 8 * i))
-      → ((i : ℕ) → i < n → Closed (place + 8 * i) (place + 8 * i)) → StandBehind bytes place n start end
-      → drop start bytes ≡ pool (all place n) ++ drop end bytes
-  strings_again place zero start end lies nuls stand = ap (λ (k : ℕ). drop k bytes) stand
-  strings_again place (suc n) start end lies nuls stand =
-      let here = string_here place start stand.0 (first_row Lies place place n lies)
-      (first_row Closed place place n nuls) in
-      let rest = strings_again (place + 8) n (start + w place + 1) end (later_rows Lies place place n lies)
-      (later_rows Closed place place n nuls) stand.1 in
-      let split : pool (all place (suc n)) ≡ closed (at place)
-      ++ pool (all (place + 8) n) = flat_map-cons closed (at place) (all (place + 8) n) in
-      here ∙ ap (λ (r : List ℕ). closed (at place) ++ r) rest
-      ∙ sym (append_assoc (closed (at place)) (pool (all (place + 8) n)) (drop end bytes))
+  pub strings_again : (offset n start end : ℕ) → ((i : ℕ) → i < n → Lies (offset + 8 * i) (offset + 8 * i))
+      → ((i : ℕ) → i < n → Nul (offset + 8 * i) (offset + 8 * i)) → StandBehind bytes offset n start end
+      → drop start bytes ≡ pool (all offset n) ++ drop end bytes
+  strings_again offset zero start end lies nuls stand = ap (λ (k : ℕ). drop k bytes) stand
+  strings_again offset (suc n) start end lies nuls stand =
+      let here = string_here offset start stand.0 (first_row Lies offset offset n lies)
+      (first_row Nul offset offset n nuls) in
+      let rest = strings_again (offset + 8) n (start + w offset + 1) end (later_rows Lies offset offset n lies)
+      (later_rows Nul offset offset n nuls) stand.1 in
+      let split : pool (all offset (suc n)) ≡ with_nul (at offset)
+      ++ pool (all (offset + 8) n) = flat_map-cons with_nul (at offset) (all (offset + 8) n) in
+      here ∙ ap (λ (r : List ℕ). with_nul (at offset) ++ r) rest
+      ∙ sym (append_assoc (with_nul (at offset)) (pool (all (offset + 8) n)) (drop end bytes))
       ∙ ap (λ (p : List ℕ). p ++ drop end bytes) (sym split)
 
   -- where the strings end
-  pub end_is : (place n start end : ℕ) → StandBehind bytes place n start end
-      → ((i : ℕ) → i < n → Lies (place + 8 * i) (place + 8 * i)) → end ≡ start + length (pool (all place n))
-  end_is place zero start end stand lies = omega (arith, stand)
-  end_is place (suc n) start end stand lies =
-      let rest = end_is (place + 8) n (start + w place + 1) end stand.1 (later_rows Lies place place n lies) in
-      let split : pool (all place (suc n)) ≡ closed (at place)
-      ++ pool (all (place + 8) n) = flat_map-cons closed (at place) (all (place + 8) n) in
-      let len : length (at place) ≡ w place = length-string little_number bytes place
-      (first_row Lies place place n lies) in
+  pub end_is : (offset n start end : ℕ) → StandBehind bytes offset n start end
+      → ((i : ℕ) → i < n → Lies (offset + 8 * i) (offset + 8 * i)) → end ≡ start + length (pool (all offset n))
+  end_is offset zero start end stand lies = omega (arith, stand)
+  end_is offset (suc n) start end stand lies =
+      let rest = end_is (offset + 8) n (start + w offset + 1) end stand.1 (later_rows Lies offset offset n lies) in
+      let split : pool (all offset (suc n)) ≡ with_nul (at offset)
+      ++ pool (all (offset + 8) n) = flat_map-cons with_nul (at offset) (all (offset + 8) n) in
+      let len : length (at offset) ≡ w offset = length-string little_number bytes offset
+      (first_row Lies offset offset n lies) in
       omega (
         arith,
         rest,
         ap length split,
-        length-append (closed (at place)) (pool (all (place + 8) n)),
+        length-append (with_nul (at offset)) (pool (all (offset + 8) n)),
         length-append
-            (at place) (0 ∷ []),
+            (at offset) (0 ∷ []),
         len,
       )
 
@@ -169,13 +170,13 @@ module _ (bytes : List ℕ) (each : AreBytes bytes) where
       (s5 ∙ ap (λ (r : List ℕ). word (w 20) ++ r) s6))))) in
       let F : ℕ → ℕ → ℕ → ℕ → ℕ → ℕ → ℕ → List ℕ = λ a b c d e f g. word a
       ++ (word b ++ (word c ++ (word d ++ (word e ++ (word f ++ (word g ++ drop 28 bytes)))))) in
-      all ∙ (λ i. F (magic i) (revision i) (count i) (h.originals i) (h.translations i) (h.places i) (h.hashes i))
+      all ∙ (λ i. F (magic i) (revision i) (count i) (h.originals i) (h.translations i) (h.slots i) (h.hashes i))
       ∙ simp append_assoc
 
   -- both tables, and then both lists of strings
   pub whole : (n middle : ℕ) → 28 + 16 * n ≤ length bytes → w 0 ≡ 0x950412de → w 4 ≡ 0 → w 8 ≡ n → IsInOrder bytes n
       → TableLies (table_at little_number bytes 28 n) → TableLies (table_at little_number bytes (28 + 8 * n) n)
-      → AllClosed (table_at little_number bytes 28 n) → AllClosed (table_at little_number bytes (28 + 8 * n) n)
+      → AllHaveNul (table_at little_number bytes 28 n) → AllHaveNul (table_at little_number bytes (28 + 8 * n) n)
       → StandBehind bytes 28 n (28 + 16 * n) middle → StandBehind bytes (28 + 8 * n) n middle (length bytes) → bytes
       ≡ file n (all 28 n) (all (28 + 8 * n) n)
   whole n middle room magic revision count order ol tl oc tc os ts =
@@ -243,19 +244,21 @@ all_seen bytes table n i end le =
 module _ (bytes : List ℕ) (n : ℕ) (passed : PassesBelow (file_by little_number bytes) 12)
     (count : n ≡ word_at little_number bytes 8) (order : IsInOrder bytes n) where
   pub originals_lie : TableLies (table_at little_number bytes 28 n)
-  originals_lie = at_words (λ a n. TableLies (table_at little_number bytes a n)) _ _ _ _ (sym order.originals) count
-      (passed Bounds (omega arith)).0
+  originals_lie = at_words (λ a n. TableLies (table_at little_number bytes a n)) _ _ _ _ (sym order.originals)
+      count (passed Bounds (omega arith)).0
 
   pub translations_lie : TableLies (table_at little_number bytes (28 + 8 * n) n)
   translations_lie = at_words (λ a n. TableLies (table_at little_number bytes a n)) _ _ _ _ (sym order.translations)
       count (passed Bounds (omega arith)).1
 
-  originals_closed : AllClosed (table_at little_number bytes 28 n)
-  originals_closed = at_words (λ a n. AllClosed (table_at little_number bytes a n)) _ _ _ _ (sym order.originals) count
-      (passed NoNul (omega arith)).0
+  originals_have_nul : AllHaveNul (table_at little_number bytes 28 n)
+  originals_have_nul = at_words (λ a n. AllHaveNul (table_at little_number bytes a n)) _ _ _ _
+      (sym order.originals)
+      count (passed NoNul (omega arith)).0
 
-  translations_closed : AllClosed (table_at little_number bytes (28 + 8 * n) n)
-  translations_closed = at_words (λ a n. AllClosed (table_at little_number bytes a n)) _ _ _ _ (sym order.translations)
+  translations_have_nul : AllHaveNul (table_at little_number bytes (28 + 8 * n) n)
+  translations_have_nul = at_words (λ a n. AllHaveNul (table_at little_number bytes a n)) _ _ _ _
+      (sym order.translations)
       count (passed NoNul (omega arith)).1
 
   pub room : 28 + 8 * n + 8 * n ≤ length bytes
@@ -269,8 +272,8 @@ module _ (bytes : List ℕ) (n : ℕ) (passed : PassesBelow (file_by little_numb
       let Q : ℕ → Type 0 = λ a. StandBehind bytes 28 n a middle in
       let R : ℕ → Type 0 = λ e. StandBehind bytes (28 + 8 * n) n middle e in
       let spelt = whole bytes each n middle (omega (arith, room)) (passed Magic (omega arith))
-      (passed Revision (omega arith)) (sym count) order originals_lie translations_lie originals_closed
-      translations_closed (subst Q start os) (subst R all ts) in
+      (passed Revision (omega arith)) (sym count) order originals_lie translations_lie originals_have_nul
+      translations_have_nul (subst Q start os) (subst R all ts) in
       spelt ∙ sym (spelling_named little_number bytes 28 (28 + 8 * n) n)
       ∙ ap spelling (named_words little_number bytes 28 (28 + 8 * n) n (sym order.originals)
       (sym order.translations) count)

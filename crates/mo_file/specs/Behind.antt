@@ -8,11 +8,11 @@ use Rattle.mo_file.specs.Tables.{word_at}
 pub record IsInOrder (bytes : List ℕ) (n : ℕ) : Type 0 where
   pub originals : word_at little_number bytes 12 ≡ header_len
   pub translations : word_at little_number bytes 16 ≡ header_len + 8 * n
-  pub places : word_at little_number bytes 20 ≡ 0
+  pub slots : word_at little_number bytes 20 ≡ 0
   pub hashes : word_at little_number bytes 24 ≡ header_len + 16 * n
 
--- the strings of the n rows from this place on follow one another from `at` to `end`, each with one more byte
+-- the strings of the n rows from this offset on follow one another from `at` to `end`, each with one more byte
 abbrev pub StandBehind : List ℕ → ℕ → ℕ → ℕ → ℕ → Type 0
-StandBehind bytes place zero at end = at ≡ end
-StandBehind bytes place (suc n) at end = (word_at little_number bytes (place + 4) ≡ at)
-    × StandBehind bytes (place + 8) n (at + word_at little_number bytes place + 1) end
+StandBehind bytes offset zero at end = at ≡ end
+StandBehind bytes offset (suc n) at end = (word_at little_number bytes (offset + 4) ≡ at)
+    × StandBehind bytes (offset + 8) n (at + word_at little_number bytes offset + 1) end

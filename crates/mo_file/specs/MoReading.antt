@@ -5,9 +5,9 @@ use Rattle.catalogue.specs.Entry.{Entry, original, translation}
 use Rattle.catalogue.specs.MoFile.{header_len, magic_number, most_file}
 use Rattle.catalogue.specs.Map.{IsLawful}
 use Rattle.mo_file.specs.Tables.{word_at}
-pub use Rattle.mo_tables.specs.MoTables.{Table, table_at, row, string_in, strings_in, StringLies, IsClosed, before_nul}
+pub use Rattle.mo_tables.specs.MoTables.{Table, table_at, row, string_in, strings_in, StringLies, HasNul, before_nul}
 pub use Rattle.mo_tables.specs.MoTables.{IsOriginalText, IsTranslationText, HasLawfulForms, HasLawfulHeader}
-pub use Rattle.mo_tables.specs.MoTables.{TableLies, AllClosed, AreOriginalTexts, AreTranslationTexts, HaveLawfulForms}
+pub use Rattle.mo_tables.specs.MoTables.{TableLies, AllHaveNul, AreOriginalTexts, AreTranslationTexts, HaveLawfulForms}
 pub use Rattle.mo_tables.specs.MoTables.{KeysRise, HaveLawfulHeaders, Fits}
 use Rattle.mo_file.specs.declared.fault.MoFault.{MoFault}
 use Rattle.mo_file.specs.declared.fault.MoFault.TheVariants.{TooLarge, Short, Magic, Revision, Bounds, NoNul, BadText}
@@ -60,7 +60,7 @@ Passes file Short = header_len ≤ length file.bytes
 Passes file Magic = word_at file.number file.bytes 0 ≡ magic_number
 Passes file Revision = word_at file.number file.bytes 4 ≡ 0
 Passes file Bounds = TableLies file.originals × TableLies file.translations
-Passes file NoNul = AllClosed file.originals × AllClosed file.translations
+Passes file NoNul = AllHaveNul file.originals × AllHaveNul file.translations
 Passes file BadText = AreOriginalTexts file.originals × AreTranslationTexts file.translations
 Passes file Forms = HaveLawfulForms file.originals file.translations
 Passes file Order = KeysRise file.originals

@@ -18,13 +18,13 @@ use mo_tables::{string, word};
 use std::alloc::{AllocError, Global};
 
 /// Returns the string of a row, which has been checked to be UTF-8.
-fn text<T: ByteOrder>(bytes: &[u8], place: usize) -> &str
-    requires row { place + 8 ≤ length bytes.now }
-    requires lies { StringLies T.number_of bytes.now place }
-    requires utf8 { IsUtf8 (string_at T.number_of bytes.now place) }
-    ensures { result.now ≡ string_at T.number_of bytes.now place }
+fn text<T: ByteOrder>(bytes: &[u8], offset: usize) -> &str
+    requires row { offset + 8 ≤ length bytes.now }
+    requires lies { StringLies T.number_of bytes.now offset }
+    requires utf8 { IsUtf8 (string_at T.number_of bytes.now offset) }
+    ensures { result.now ≡ string_at T.number_of bytes.now offset }
 {
-    let string = string::<T>(bytes, place);
+    let string = string::<T>(bytes, offset);
     unsafe { str::from_utf8_unchecked(string) }
 }
 

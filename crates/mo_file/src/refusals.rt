@@ -10,7 +10,7 @@ use crate::fault::MoFault;
 use byteorder::{BigEndian, ByteOrder, LittleEndian};
 use mo_image::{COUNT_AT, HEADER_LEN, MAGIC, MAX_LEN, ORIGINALS_AT, REVISION_AT, TRANSLATIONS_AT};
 use mo_tables::{
-    all_closed, are_sound, fits, have_lawful_forms, have_lawful_headers, have_lawful_texts,
+    all_have_nul, are_sound, fits, have_lawful_forms, have_lawful_headers, have_lawful_texts,
     keys_rise, overlapping_keys_rise, table_lies, word,
 };
 use std::alloc::{AllocError, Global};
@@ -32,8 +32,8 @@ pub fn passes_closing<T: ByteOrder>(bytes: &[u8]) -> bool
     ensures { IsTrue result ↔ Passes (file_by T.number_of bytes.now) MoFault.NoNul }
 {
     let n = word::<T>(bytes, COUNT_AT);
-    all_closed::<T>(bytes, word::<T>(bytes, ORIGINALS_AT), n)
-        && all_closed::<T>(bytes, word::<T>(bytes, TRANSLATIONS_AT), n)
+    all_have_nul::<T>(bytes, word::<T>(bytes, ORIGINALS_AT), n)
+        && all_have_nul::<T>(bytes, word::<T>(bytes, TRANSLATIONS_AT), n)
 }
 
 /// Whether all strings are lawful texts.
@@ -77,7 +77,7 @@ fn passes_order<T: ByteOrder>(
     requires short { length bytes.now ≤ most_file }
     requires long { header_len ≤ length bytes.now }
     requires lies { Passes (file_by T.number_of bytes.now) MoFault.Bounds }
-    requires closed { Passes (file_by T.number_of bytes.now) MoFault.NoNul }
+    requires with_nul { Passes (file_by T.number_of bytes.now) MoFault.NoNul }
     ensures { IfOk result (λ yes. IsTrue yes ↔ Passes (file_by T.number_of bytes.now) MoFault.Order) }
 {
     let n = word::<T>(bytes, COUNT_AT);
@@ -105,7 +105,7 @@ fn passes_charset<T: ByteOrder>(bytes: &[u8]) -> bool
     )
 }
 
-/// Whether the strings are closed and pass all their tests, as far as a single pass over the rows can tell.
+/// Whether a NUL ends each string and the strings pass all their tests, as far as a single pass over the rows can tell.
 fn is_sound<T: ByteOrder>(bytes: &[u8]) -> bool
     requires long { header_len ≤ length bytes.now }
     requires lies { Passes (file_by T.number_of bytes.now) MoFault.Bounds }

@@ -12,10 +12,10 @@ use Rattle.std.proofs.lemmas.Str.{IsUtf8-append}
 use Rattle.byteorder.specs.Endian.{little_number}
 use Rattle.byte_text.specs.Cut.{cut, offset_of, IsCut}
 use Rattle.mo_image.specs.Entry.{Entry, HasForms, IsLawfulEntry, LacksByte}
-use Rattle.mo_image.specs.Extents.{piece, HoldsClosed, IsNamedAt}
+use Rattle.mo_image.specs.Extents.{piece, HoldsWithNul, IsNamedAt}
 use Rattle.mo_image.specs.Image.{NamesText}
-use Rattle.mo_image.specs.Lent.{IsClosedCut}
-use Rattle.mo_image.specs.MoFile.{closed, pool}
+use Rattle.mo_image.specs.Lent.{IsCutWithNul}
+use Rattle.mo_image.specs.MoFile.{with_nul, pool}
 use Rattle.mo_image.specs.Pairs.{entry_of}
 use Rattle.mo_image.specs.Tables.{word_at}
 use Rattle.mo_image.specs.declared.extent.Extent.{Extent}
@@ -24,9 +24,9 @@ use Rattle.mo_image.proofs.Extents.{piece_held}
 use Rattle.mo_image.proofs.Originals.{nul_utf8}
 
 -- the part of a file up to and including the NUL
-pub closed_piece : (bytes : List ℕ) (extent : Extent) → HoldsClosed bytes extent
-    → take (extent.start + extent.len + 1 - extent.start) (drop extent.start bytes) ≡ closed (piece bytes extent)
-closed_piece bytes extent h =
+pub piece_with_nul : (bytes : List ℕ) (extent : Extent) → HoldsWithNul bytes extent
+    → take (extent.start + extent.len + 1 - extent.start) (drop extent.start bytes) ≡ with_nul (piece bytes extent)
+piece_with_nul bytes extent h =
     let behind : List ℕ = drop extent.start bytes in
     let count : extent.start + extent.len + 1 - extent.start ≡ extent.len + 1 = omega arith in
     let inside : extent.len < length behind = omega (arith, length-drop extent.start bytes, h.room) in
@@ -34,46 +34,47 @@ closed_piece bytes extent h =
     ap (λ (n : ℕ). take n behind) count ∙ take_more behind extent.len 0 inside
     ∙ ap (λ (b : ℕ). piece bytes extent ++ (b ∷ [])) nul
 
-pub closed_utf8 : (bytes : List ℕ) (extent : Extent) → HoldsClosed bytes extent
+pub with_nul_utf8 : (bytes : List ℕ) (extent : Extent) → HoldsWithNul bytes extent
     → IsUtf8 (take (extent.start + extent.len + 1 - extent.start) (drop extent.start bytes))
-closed_utf8 bytes extent h = subst IsUtf8 (sym (closed_piece bytes extent h))
+with_nul_utf8 bytes extent h = subst IsUtf8 (sym (piece_with_nul bytes extent h))
     (IsUtf8-append (piece bytes extent) (0 ∷ []) h.piece.utf8 nul_utf8)
 
-pub closed_held : (bytes : List ℕ) (place : ℕ) (extent : Extent) → IsNamedAt bytes place extent
-    → NamesText bytes place
-    → slice_index bytes (word_at little_number bytes (place + 4) + word_at little_number bytes place) ≡ 0
-    → HoldsClosed bytes extent
-closed_held bytes place extent h text nul = record {
-  piece = piece_held bytes place extent h text;
+pub held_with_nul : (bytes : List ℕ) (offset : ℕ) (extent : Extent) → IsNamedAt bytes offset extent
+    → NamesText bytes offset
+    → slice_index bytes (word_at little_number bytes (offset + 4) + word_at little_number bytes offset) ≡ 0
+    → HoldsWithNul bytes extent
+held_with_nul bytes offset extent h text nul = record {
+  piece = piece_held bytes offset extent h text;
   room = omega (arith, h.len, h.start, text.room);
   nul = rw (h.len, h.start) nul;
 }
 
 -- a form and the NUL after it
-pub closed_front : (text form others : List ℕ) → IsCut 0 text form others → take (length form + 1) text ≡ closed form
-closed_front text form others at =
+pub front_with_nul : (text form others : List ℕ) → IsCut 0 text form others
+    → take (length form + 1) text ≡ with_nul form
+front_with_nul text form others at =
     let p : ℕ = offset_of 0 text in
     let len : length form ≡ p = ap length at.front_is ∙ length-take-le p text (omega (arith, at.within)) in
     let nul : get_or text p 0 ≡ 0 = eqb-true _ _ (passes_at_first (λ b. eqb b 0) text 0 at.within) in
     ap (λ (n : ℕ). take (n + 1) text) len ∙ take_more text p 0 at.within
-    ∙ ap (λ (b : ℕ). take p text ++ (b ∷ [])) nul ∙ ap closed (sym at.front_is)
+    ∙ ap (λ (b : ℕ). take p text ++ (b ∷ [])) nul ∙ ap with_nul (sym at.front_is)
 
 -- forms with NUL between them and one more at the end are forms each with a NUL after it
-closed_joined : (forms : List (List ℕ)) → 0 < length forms → closed (join_with_byte 0 forms) ≡ pool forms
-closed_joined [] some = absurd (omega arith)
-closed_joined (f ∷ []) some = sym (append-nil-of (closed f))
+joined_with_nul : (forms : List (List ℕ)) → 0 < length forms → with_nul (join_with_byte 0 forms) ≡ pool forms
+joined_with_nul [] some = absurd (omega arith)
+joined_with_nul (f ∷ []) some = sym (append-nil-of (with_nul f))
   where
     append-nil-of : (xs : List ℕ) → xs ++ [] ≡ xs
     append-nil-of [] = refl
     append-nil-of (x ∷ xs) = ap (λ (ys : List ℕ). x ∷ ys) (append-nil-of xs)
-closed_joined (f ∷ g ∷ fs) some =
+joined_with_nul (f ∷ g ∷ fs) some =
     append_assoc f (0 ∷ join_with_byte 0 (g ∷ fs)) (0 ∷ [])
-    ∙ ap (λ (rest : List ℕ). f ++ (0 ∷ rest)) (closed_joined (g ∷ fs) (omega arith))
+    ∙ ap (λ (rest : List ℕ). f ++ (0 ∷ rest)) (joined_with_nul (g ∷ fs) (omega arith))
     ∙ sym (append_assoc f (0 ∷ []) (pool (g ∷ fs)))
 
-pub closed_forms : (t : List ℕ) → closed t ≡ pool (slice_split (λ b. b == 0) t)
-closed_forms t = ap closed (sym (join_with_byte-slice_split 0 t))
-    ∙ closed_joined (slice_split (λ b. eqb b 0) t) (omega (arith, length-slice_split (λ b. eqb b 0) t))
+pub forms_with_nul : (t : List ℕ) → with_nul t ≡ pool (slice_split (λ b. b == 0) t)
+forms_with_nul t = ap with_nul (sym (join_with_byte-slice_split 0 t))
+    ∙ joined_with_nul (slice_split (λ b. eqb b 0) t) (omega (arith, length-slice_split (λ b. eqb b 0) t))
 
 -- the form at k, cut from what is left once those before it have been taken
 pub record IsCutAt (forms : List (List ℕ)) (k : ℕ) (form : List ℕ) : Type 0 where
@@ -99,11 +100,11 @@ cut_at (f ∷ fs) (suc k) lack lt =
 
 -- what was cut off, and what is left
 pub cut_told : (forms : List (List ℕ)) (k : ℕ) (left front behind : List ℕ) → (form : List ℕ) × IsCutAt forms k form
-    → left ≡ pool (drop k forms) → IfSome (cut 0 left) (λ parts. IsClosedCut parts front behind)
-    → IfSome (slice_get forms k) (λ form. front ≡ closed form) × (behind ≡ pool (drop (k + 1) forms))
+    → left ≡ pool (drop k forms) → IfSome (cut 0 left) (λ parts. IsCutWithNul parts front behind)
+    → IfSome (slice_get forms k) (λ form. front ≡ with_nul form) × (behind ≡ pool (drop (k + 1) forms))
 cut_told forms k left front behind at are told =
-    let P : Option (List ℕ × List ℕ) → Type 0 = λ parts. IfSome parts (λ p. IsClosedCut p front behind) in
-    let so : IsClosedCut (at.0, pool (drop (k + 1) forms)) front behind = subst P
+    let P : Option (List ℕ × List ℕ) → Type 0 = λ parts. IfSome parts (λ p. IsCutWithNul p front behind) in
+    let so : IsCutWithNul (at.0, pool (drop (k + 1) forms)) front behind = subst P
     (ap (cut 0) are ∙ at.1.split) told in
     (rw at.1.found so.form, so.others)
 

@@ -22,20 +22,21 @@ lacks_at byte [] k d lacks lt = absurd (omega arith)
 lacks_at byte (x ∷ xs) zero d lacks lt = differs x byte lacks.0
 lacks_at byte (x ∷ xs) (suc k) d lacks lt = lacks_at byte xs k d lacks.1 (omega arith)
 
-place_in : (byte : ℕ) (a b : List ℕ) → LacksByte byte a → position_or_len (λ x. eqb x byte) (a ++ (byte ∷ b)) ≡ length a
-place_in byte a b lacks =
+offset_in : (byte : ℕ) (a b : List ℕ) → LacksByte byte a
+    → position_or_len (λ x. eqb x byte) (a ++ (byte ∷ b)) ≡ length a
+offset_in byte a b lacks =
     position_or_len_is (λ x. eqb x byte) (a ++ (byte ∷ b)) (length a) 0 (omega (arith, length-append a (byte ∷ b)))
     (λ k lt. rw (get_or_append_left a (byte ∷ b) 0 k lt) (lacks_at byte a k 0 lacks lt))
     (λ _. rw (get_or_at a byte b 0 (length a) refl) (search rules))
 
-place_none : (byte : ℕ) (a : List ℕ) → LacksByte byte a → position_or_len (λ x. eqb x byte) a ≡ length a
-place_none byte a lacks = position_or_len_is (λ x. eqb x byte) a (length a) 0 (omega arith)
+offset_none : (byte : ℕ) (a : List ℕ) → LacksByte byte a → position_or_len (λ x. eqb x byte) a ≡ length a
+offset_none byte a lacks = position_or_len_is (λ x. eqb x byte) a (length a) 0 (omega arith)
     (λ k lt. lacks_at byte a k 0 lacks lt) (λ lt. absurd (omega arith))
 
 pub cut-none : (byte : ℕ) (a : List ℕ) → LacksByte byte a → cut byte a ≡ None
 cut-none byte a lacks =
     let outside : ltb (position_or_len (λ x. eqb x byte) a) (length a)
-    ≡ false = le-ltb _ _ (omega (arith, place_none byte a lacks)) in
+    ≡ false = le-ltb _ _ (omega (arith, offset_none byte a lacks)) in
     rw outside refl
 
 past : (byte : ℕ) (a b : List ℕ) → drop (length a + 1) (a ++ (byte ∷ b)) ≡ b
@@ -44,7 +45,7 @@ past byte a b = ap (drop (length a + 1)) (sym (append_assoc a (byte ∷ []) b))
 
 pub cut-some : (byte : ℕ) (a b : List ℕ) → LacksByte byte a → cut byte (a ++ (byte ∷ b)) ≡ Some (a, b)
 cut-some byte a b lacks =
-    let at = place_in byte a b lacks in
+    let at = offset_in byte a b lacks in
     let inside : ltb (position_or_len (λ x. eqb x byte) (a ++ (byte ∷ b))) (length (a ++ (byte ∷ b)))
     ≡ true = lt-ltb _ _ (omega (arith, at, length-append a (byte ∷ b))) in
     let before : before_first (λ x. eqb x byte) (a ++ (byte ∷ b)) ≡ a = ap (λ n. take n (a ++ (byte ∷ b))) at

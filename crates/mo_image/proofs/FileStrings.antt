@@ -7,7 +7,7 @@ use Rattle.std.proofs.lemmas.List.{drop_at, take_at, get_or_at, length-map, appe
 use Rattle.byteorder.specs.Endian.{little_number}
 use Rattle.byteorder.specs.Numbers.{little_number-reads_back}
 use Rattle.mo_image.specs.Entry.{Entry, original, translation}
-use Rattle.mo_image.specs.MoFile.{word, pairs, closed, pool, header, file, spelling}
+use Rattle.mo_image.specs.MoFile.{word, pairs, with_nul, pool, header, file, spelling}
 use Rattle.mo_image.proofs.MoLengths.{length-word, length-header, length-pairs}
 use Rattle.mo_image.specs.Tables.{word_at, string_at, strings}
 
@@ -16,58 +16,59 @@ unfolding word
 word_read n rest small = little_number-reads_back 4 n rest small
 
 -- the word after pre
-word_behind : (bytes pre rest : List ℕ) (n place : ℕ) → bytes ≡ pre ++ (word n ++ rest) → length pre ≡ place
-    → n < 2 ^ 32 → word_at little_number bytes place ≡ n
-word_behind bytes pre rest n place split len small =
+word_behind : (bytes pre rest : List ℕ) (n offset : ℕ) → bytes ≡ pre ++ (word n ++ rest) → length pre ≡ offset
+    → n < 2 ^ 32 → word_at little_number bytes offset ≡ n
+word_behind bytes pre rest n offset split len small =
     ap (word_at little_number bytes) (sym len) ∙ ap (λ (b : List ℕ). little_number 4 (drop (length pre) b)) split
     ∙ ap (little_number 4) (drop_at pre (word n ++ rest) (length pre) refl) ∙ word_read n rest small
 
 -- the bytes after pre
-part_behind : (bytes pre s rest : List ℕ) (place : ℕ) → bytes ≡ pre ++ (s ++ rest) → length pre ≡ place
-    → take (length s) (drop place bytes) ≡ s
-part_behind bytes pre s rest place split len =
-    ap (λ (b : List ℕ). take (length s) (drop place b)) split ∙ ap (take (length s)) (drop_at pre (s ++ rest) place len)
+part_behind : (bytes pre s rest : List ℕ) (offset : ℕ) → bytes ≡ pre ++ (s ++ rest) → length pre ≡ offset
+    → take (length s) (drop offset bytes) ≡ s
+part_behind bytes pre s rest offset split len =
+    ap (λ (b : List ℕ). take (length s) (drop offset b)) split
+    ∙ ap (take (length s)) (drop_at pre (s ++ rest) offset len)
     ∙ take_at s rest (length s) refl
 
--- the row at this place names s, which lies in the file followed by a NUL
-pub record Names (bytes : List ℕ) (place : ℕ) (s : List ℕ) : Type 0 where
-  pub row : place + 8 ≤ length bytes
-  pub lies : word_at little_number bytes (place + 4) + word_at little_number bytes place < length bytes
-  pub closed : slice_index bytes (word_at little_number bytes (place + 4) + word_at little_number bytes place) ≡ 0
-  pub string : string_at little_number bytes place ≡ s
+-- the row at this offset names s, which lies in the file followed by a NUL
+pub record Names (bytes : List ℕ) (offset : ℕ) (s : List ℕ) : Type 0 where
+  pub row : offset + 8 ≤ length bytes
+  pub lies : word_at little_number bytes (offset + 4) + word_at little_number bytes offset < length bytes
+  pub with_nul : slice_index bytes (word_at little_number bytes (offset + 4) + word_at little_number bytes offset) ≡ 0
+  pub string : string_at little_number bytes offset ≡ s
 
--- the rows from this place on name these strings
+-- the rows from this offset on name these strings
 abbrev pub AllNamed : List ℕ → ℕ → List (List ℕ) → Type 0
-AllNamed bytes place [] = Unit {0}
-AllNamed bytes place (s ∷ ss) = Names bytes place s × AllNamed bytes (place + 8) ss
+AllNamed bytes offset [] = Unit {0}
+AllNamed bytes offset (s ∷ ss) = Names bytes offset s × AllNamed bytes (offset + 8) ss
 
-pub strings_named : (bytes : List ℕ) (place : ℕ) (ss : List (List ℕ)) → AllNamed bytes place ss
-    → strings little_number bytes place (length ss) ≡ ss
-strings_named bytes place [] named = refl
-strings_named bytes place (s ∷ ss) named =
-    ap (λ (t : List ℕ). t ∷ strings little_number bytes (place + 8) (length ss)) named.0.string
-    ∙ ap (λ (ts : List (List ℕ)). s ∷ ts) (strings_named bytes (place + 8) ss named.1)
+pub strings_named : (bytes : List ℕ) (offset : ℕ) (ss : List (List ℕ)) → AllNamed bytes offset ss
+    → strings little_number bytes offset (length ss) ≡ ss
+strings_named bytes offset [] named = refl
+strings_named bytes offset (s ∷ ss) named =
+    ap (λ (t : List ℕ). t ∷ strings little_number bytes (offset + 8) (length ss)) named.0.string
+    ∙ ap (λ (ts : List (List ℕ)). s ∷ ts) (strings_named bytes (offset + 8) ss named.1)
 
-pub named_at : (bytes : List ℕ) (place : ℕ) (ss : List (List ℕ)) (i : ℕ) (s : List ℕ) → AllNamed bytes place ss
-    → slice_get ss i ≡ Some s → Names bytes (place + 8 * i) s
-named_at bytes place [] i s named e = absurd cc
-named_at bytes place (t ∷ ss) zero s named e = let same : t ≡ s = cc in subst (λ (n : ℕ). Names bytes n s) (omega arith)
-    (subst (Names bytes place) same named.0)
-named_at bytes place (t ∷ ss) (suc i) s named e = subst (λ (n : ℕ). Names bytes n s) (omega arith)
-    (named_at bytes (place + 8) ss i s named.1 e)
+pub named_at : (bytes : List ℕ) (offset : ℕ) (ss : List (List ℕ)) (i : ℕ) (s : List ℕ) → AllNamed bytes offset ss
+    → slice_get ss i ≡ Some s → Names bytes (offset + 8 * i) s
+named_at bytes offset [] i s named e = absurd cc
+named_at bytes offset (t ∷ ss) zero s named e = let same : t ≡ s = cc in subst (λ (n : ℕ). Names bytes n s)
+    (omega arith) (subst (Names bytes offset) same named.0)
+named_at bytes offset (t ∷ ss) (suc i) s named e = subst (λ (n : ℕ). Names bytes n s) (omega arith)
+    (named_at bytes (offset + 8) ss i s named.1 e)
 
 -- rows and the strings that they name, with anything before, between and after
-laid_out : (bytes : List ℕ) (ss : List (List ℕ)) (pre mid post : List ℕ) (at place : ℕ) → bytes ≡ pre
-    ++ (pairs at ss ++ (mid ++ (pool ss ++ post))) → length pre ≡ place
-    → at ≡ place + length (pairs at ss) + length mid → length bytes < 2 ^ 32 → AllNamed bytes place ss
-laid_out bytes [] pre mid post at place split len start small = tt
-laid_out bytes (s ∷ ss) pre mid post at place split len start small =
+laid_out : (bytes : List ℕ) (ss : List (List ℕ)) (pre mid post : List ℕ) (at offset : ℕ) → bytes ≡ pre
+    ++ (pairs at ss ++ (mid ++ (pool ss ++ post))) → length pre ≡ offset
+    → at ≡ offset + length (pairs at ss) + length mid → length bytes < 2 ^ 32 → AllNamed bytes offset ss
+laid_out bytes [] pre mid post at offset split len start small = tt
+laid_out bytes (s ∷ ss) pre mid post at offset split len start small =
     let tail : List ℕ = pairs (at + length s + 1) ss in
     let pair : List ℕ = word (length s) ++ word at in
-    let rest : List ℕ = mid ++ ((closed s ++ pool ss) ++ post) in
+    let rest : List ℕ = mid ++ ((with_nul s ++ pool ss) ++ post) in
     let front : List ℕ = pre ++ (pair ++ (tail ++ mid)) in
     let s0 : bytes ≡ pre ++ ((pair ++ tail) ++ rest) = split in
-    let s1 : bytes ≡ (pre ++ pair) ++ (tail ++ ((mid ++ closed s) ++ (pool ss ++ post))) = s0 ∙ simp append_assoc in
+    let s1 : bytes ≡ (pre ++ pair) ++ (tail ++ ((mid ++ with_nul s) ++ (pool ss ++ post))) = s0 ∙ simp append_assoc in
     let s2 : bytes ≡ pre ++ (word (length s) ++ (word at ++ (tail ++ rest))) = s0 ∙ simp append_assoc in
     let s3 : bytes ≡ (pre ++ word (length s)) ++ (word at ++ (tail ++ rest)) = s0 ∙ simp append_assoc in
     let s4 : bytes ≡ front ++ (s ++ ((0 ∷ []) ++ (pool ss ++ post))) = s0 ∙ simp append_assoc in
@@ -80,27 +81,27 @@ laid_out bytes (s ∷ ss) pre mid post at place split len start small =
     let l0 : length bytes ≡ at + (length s + (1 + length (pool ss ++ post))) =
     ap length s4 ∙ length-append front (s ++ ((0 ∷ []) ++ (pool ss ++ post)))
     ∙ omega (arith, l4, length-append s ((0 ∷ []) ++ (pool ss ++ post))) in
-    let word_start : word_at little_number bytes (place + 4)
-    ≡ at = word_behind bytes (pre ++ word (length s)) (tail ++ rest) at (place + 4) s3
+    let word_start : word_at little_number bytes (offset + 4)
+    ≡ at = word_behind bytes (pre ++ word (length s)) (tail ++ rest) at (offset + 4) s3
     (omega (arith, length-append pre (word (length s)))) (omega (arith, l0, small)) in
-    let word_len : word_at little_number bytes place ≡ length s = word_behind bytes pre (word at ++ (tail ++ rest))
-    (length s) place s2 len (omega (arith, l0, small)) in
-    let end : word_at little_number bytes (place + 4) + word_at little_number bytes place
+    let word_len : word_at little_number bytes offset ≡ length s = word_behind bytes pre (word at ++ (tail ++ rest))
+    (length s) offset s2 len (omega (arith, l0, small)) in
+    let end : word_at little_number bytes (offset + 4) + word_at little_number bytes offset
     ≡ length (front ++ s) = omega (arith, word_start, word_len, length-append front s, l4) in
     let nul : get_or bytes (length (front ++ s)) 0 ≡ 0 = ap (λ (b : List ℕ). get_or b (length (front ++ s)) 0) s5
     ∙ get_or_at (front ++ s) 0 (pool ss ++ post) 0 (length (front ++ s)) refl in
-    let here : Names bytes place s = record {
+    let here : Names bytes offset s = record {
       row = omega (arith, l0, length-append pair tail);
       lies = omega (arith, l0, word_start, word_len);
-      closed = ap (λ (n : ℕ). get_or bytes n 0) end ∙ nul;
+      with_nul = ap (λ (n : ℕ). get_or bytes n 0) end ∙ nul;
       string = rw (word_len, word_start) (part_behind bytes front s ((0 ∷ []) ++ (pool ss ++ post)) at s4 l4);
     } in (
       here,
-      laid_out bytes ss (pre ++ pair) (mid ++ closed s) post (at + length s + 1) (place + 8) s1
+      laid_out bytes ss (pre ++ pair) (mid ++ with_nul s) post (at + length s + 1) (offset + 8) s1
           (omega (arith, length-append pre pair)) (omega (
             arith,
             length-append pair tail,
-            length-append mid (closed s),
+            length-append mid (with_nul s),
             length-append s (0 ∷ []),
           )) small,
     )

@@ -52,7 +52,7 @@ form_at (f ∷ forms) left rest (suc k) form at split = form_at forms left rest 
 pub some_left : (forms left : List (List ℕ)) (k : ℕ) → left ≡ drop k forms → k < length forms → left ≡ [] → ⊥
 some_left forms left k at within none = omega (arith, ap length (sym at ∙ none), length-drop k forms)
 
--- a text has one part more than places where it is cut
+-- a text has one part more than offsets where it is cut
 pub form_count_is : (text : List ℕ) (forms : List (List ℕ)) (n : ℕ) → n ≡ count_by is_nul text → forms
     ≡ slice_split is_nul text → n + 1 ≡ length forms
 form_count_is text forms n counted are = omega (arith, counted, ap length are, length-slice_split is_nul text)

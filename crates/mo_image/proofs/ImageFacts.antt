@@ -11,7 +11,7 @@ use Rattle.mo_image.specs.MoFile.{spelling}
 use Rattle.mo_image.specs.Tables.{word_at, string_at, strings}
 use Rattle.mo_image.specs.Pairs.{key_part, entry_of}
 use Rattle.mo_image.specs.Image.{listing, IsImage, NamesText}
-use Rattle.mo_image.proofs.Lists.{slice_get-map, at_place}
+use Rattle.mo_image.proofs.Lists.{slice_get-map, at_index}
 use Rattle.mo_image.proofs.FileStrings.{strings_named, Describes, spelling_describes, Names, named_at}
 use Rattle.mo_image.proofs.Originals.{entry_again_of, entries_again, key_is, original_utf8, translation_utf8}
 
@@ -25,8 +25,8 @@ image_describes bytes image =
 pub image_small : (bytes : List ℕ) → IsImage bytes → length bytes ≤ 268435456
 image_small bytes image = omega (arith, image.lawful.fits, ap length image.spelt)
 
-text_named : (bytes : List ℕ) (place : ℕ) (s : List ℕ) → Names bytes place s → IsUtf8 s → NamesText bytes place
-text_named bytes place s named utf8 = record {
+text_named : (bytes : List ℕ) (offset : ℕ) (s : List ℕ) → Names bytes offset s → IsUtf8 s → NamesText bytes offset
+text_named bytes offset s named utf8 = record {
   row = named.row;
   room = named.lies;
   utf8 = subst IsUtf8
@@ -38,8 +38,8 @@ pub record EntryFacts (bytes : List ℕ) (n i : ℕ) : Type 0 where
   pub small : 28 + 8 * n + 8 * i + 8 ≤ length bytes
   pub original : NamesText bytes (28 + 8 * i)
   pub translation : NamesText bytes (28 + 8 * n + 8 * i)
-  pub closed : slice_index bytes (word_at little_number bytes (28 + 8 * n + 8 * i + 4) + word_at little_number bytes (28
-      + 8 * n + 8 * i)) ≡ 0
+  pub with_nul : slice_index bytes (word_at little_number bytes (28 + 8 * n + 8 * i + 4) + word_at little_number bytes
+      (28 + 8 * n + 8 * i)) ≡ 0
   pub found : slice_get (listing bytes) i ≡ Some (entry_of (string_at little_number bytes (28 + 8 * i))
       (string_at little_number bytes (28 + 8 * n + 8 * i)))
   pub lawful : IsLawfulEntry (entry_of (string_at little_number bytes (28 + 8 * i))
@@ -51,7 +51,7 @@ facts_of bytes i e image here =
     let m = listing bytes in
     let n = length m in
     let d = image_describes bytes image in
-    let lawful : IsLawfulEntry e = at_place IsLawfulEntry m i e image.lawful.each here in
+    let lawful : IsLawfulEntry e = at_index IsLawfulEntry m i e image.lawful.each here in
     let o = named_at bytes 28 (map original m) i (original e) d.originals (slice_get-map original m i e here) in
     let t = named_at bytes (28 + 8 * n) (map translation m) i (translation e) d.translations
     (slice_get-map translation m i e here) in
@@ -61,7 +61,7 @@ facts_of bytes i e image here =
       small = t.row;
       original = text_named bytes (28 + 8 * i) (original e) o (original_utf8 e lawful);
       translation = text_named bytes (28 + 8 * n + 8 * i) (translation e) t (translation_utf8 e lawful);
-      closed = t.closed;
+      with_nul = t.with_nul;
       found = here ∙ ap (λ x. Some x) (sym same);
       lawful = subst IsLawfulEntry (sym same) lawful;
     }
@@ -82,11 +82,11 @@ entry_room bytes i image lt = omega (arith, (entry_facts bytes i image lt).small
 pub header_long : (bytes : List ℕ) → IsImage bytes → 12 ≤ length bytes
 header_long bytes image = omega (arith, (image_describes bytes image).long)
 
-pub string_small : (bytes : List ℕ) (place : ℕ) → NamesText bytes place → length bytes ≤ 268435456
-    → length (string_at little_number bytes place) < 4294967296
-string_small bytes place text small =
-    let n = word_at little_number bytes place in
-    let start = word_at little_number bytes (place + 4) in
+pub string_small : (bytes : List ℕ) (offset : ℕ) → NamesText bytes offset → length bytes ≤ 268435456
+    → length (string_at little_number bytes offset) < 4294967296
+string_small bytes offset text small =
+    let n = word_at little_number bytes offset in
+    let start = word_at little_number bytes (offset + 4) in
     omega (
       arith,
       small,

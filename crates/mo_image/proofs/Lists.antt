@@ -24,8 +24,8 @@ image_at f xs i x lt read =
     slice_get_read (map f xs) (length (map f xs)) i (f x) refl lt (ap f read ∙ sym (get_or-map f xs i x (f x) short))
 
 -- what holds for each element holds for the one at i
-pub at_place : {X : Type 0} (P : X → Type 0) (xs : List X) (i : ℕ) (x : X) → AllByRecursion P xs → slice_get xs i
+pub at_index : {X : Type 0} (P : X → Type 0) (xs : List X) (i : ℕ) (x : X) → AllByRecursion P xs → slice_get xs i
     ≡ Some x → P x
-at_place P [] i x each e = absurd cc
-at_place P (y ∷ ys) zero x each e = let same : y ≡ x = cc in subst P same each.0
-at_place P (y ∷ ys) (suc i) x each e = at_place P ys i x each.1 e
+at_index P [] i x each e = absurd cc
+at_index P (y ∷ ys) zero x each e = let same : y ≡ x = cc in subst P same each.0
+at_index P (y ∷ ys) (suc i) x each e = at_index P ys i x each.1 e

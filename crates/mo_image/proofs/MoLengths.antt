@@ -4,17 +4,17 @@ use Rattle.std.proofs.Common.{append_assoc, length-append}
 use Rattle.std.specs.List.{join_with_byte}
 use Rattle.std.proofs.lemmas.List.{length-map, append-nil}
 use Rattle.mo_image.specs.Entry.{Entry, original, translation}
-use Rattle.mo_image.specs.MoFile.{word, pairs, closed, pool, header, file, spelling}
+use Rattle.mo_image.specs.MoFile.{word, pairs, with_nul, pool, header, file, spelling}
 
-pub length-closed : (s : List ℕ) → length (closed s) ≡ length s + 1
-length-closed s = length-append s (0 ∷ [])
+pub length-with_nul : (s : List ℕ) → length (with_nul s) ≡ length s + 1
+length-with_nul s = length-append s (0 ∷ [])
 
 -- the joined forms with a NUL after them are the forms, each with its NUL
-pub closed_joined : (forms : List (List ℕ)) → 0 < length forms → closed (join_with_byte 0 forms) ≡ pool forms
-closed_joined [] some = absurd (omega arith)
-closed_joined (f ∷ []) some = sym (append-nil (closed f))
-closed_joined (f ∷ g ∷ fs) some =
-    let rest : closed (join_with_byte 0 (g ∷ fs)) ≡ pool (g ∷ fs) = closed_joined (g ∷ fs) (omega arith) in
+pub joined_with_nul : (forms : List (List ℕ)) → 0 < length forms → with_nul (join_with_byte 0 forms) ≡ pool forms
+joined_with_nul [] some = absurd (omega arith)
+joined_with_nul (f ∷ []) some = sym (append-nil (with_nul f))
+joined_with_nul (f ∷ g ∷ fs) some =
+    let rest : with_nul (join_with_byte 0 (g ∷ fs)) ≡ pool (g ∷ fs) = joined_with_nul (g ∷ fs) (omega arith) in
     append_assoc f (0 ∷ join_with_byte 0 (g ∷ fs)) (0 ∷ []) ∙ ap (λ (t : List ℕ). f ++ (0 ∷ t)) rest
     ∙ sym (append_assoc f (0 ∷ []) (pool (g ∷ fs)))
 

@@ -26,11 +26,11 @@ use Rattle.mo_image.proofs.KeyParts.{rejoined}
 abbrev is : ℕ → ℕ → Bool
 is byte b = eqb b byte
 
-abbrev place : ℕ → List ℕ → ℕ
-place byte text = position_or_len (is byte) text
+abbrev offset : ℕ → List ℕ → ℕ
+offset byte text = position_or_len (is byte) text
 
 abbrev holds : ℕ → List ℕ → Bool
-holds byte text = ltb (place byte text) (length text)
+holds byte text = ltb (offset byte text) (length text)
 
 -- ---- from a lawful entry to its strings and back
 
@@ -45,7 +45,7 @@ front text (Some p) = p.0
 front_by : (byte : ℕ) (text : List ℕ) (test : Bool) → holds byte text ≡ test → front text (cut_at byte text test)
     ≡ before_first (is byte) text
 front_by byte text true e = refl
-front_by byte text false e = sym (take_all (place byte text) text (ltb-false _ _ e))
+front_by byte text false e = sym (take_all (offset byte text) text (ltb-false _ _ e))
 
 front_of_cut : (byte : ℕ) (text : List ℕ) → front text (cut byte text) ≡ before_first (is byte) text
 front_of_cut byte text = front_by byte text (holds byte text) refl
@@ -97,10 +97,10 @@ key_is o t = rejoined (key_part o)
 plural_again_by : (o : List ℕ) (test : Bool) → holds 0 o ≡ test
     → with_plural (key_part o) (option_map (λ p. p.1) (cut_at 0 o test)) ≡ o
 plural_again_by o true e =
-    let lt : place 0 o < length o = ltb-true _ _ e in
-    let nul : get_or o (place 0 o) 0 ≡ 0 = eqb-true _ _ (passes_at_first (is 0) o 0 lt) in
+    let lt : offset 0 o < length o = ltb-true _ _ e in
+    let nul : get_or o (offset 0 o) 0 ≡ 0 = eqb-true _ _ (passes_at_first (is 0) o 0 lt) in
     ap (λ (x : ℕ). key_part o ++ (x ∷ after_first (is 0) o)) (sym nul) ∙ sym (split_at_first (is 0) o 0 lt)
-plural_again_by o false e = take_all (place 0 o) o (ltb-false _ _ e)
+plural_again_by o false e = take_all (offset 0 o) o (ltb-false _ _ e)
 
 pub original_is : (o t : List ℕ) → original (entry_of o t) ≡ o
 original_is o t = ap (λ (k : List ℕ). with_plural k (plural_part o)) (key_is o t) ∙ plural_again_by o (holds 0 o) refl
@@ -148,16 +148,16 @@ pub parts_again : (o : List ℕ) → with_plural (key_part o) (plural_part o) �
 parts_again o = plural_again_by o (holds 0 o) refl
 
 -- a text that can't be cut at a byte lacks it
-pub lacks_from : (byte : ℕ) (text : List ℕ) → length text ≤ place byte text → LacksByte byte text
+pub lacks_from : (byte : ℕ) (text : List ℕ) → length text ≤ offset byte text → LacksByte byte text
 lacks_from byte [] le = tt
 lacks_from byte (x ∷ xs) le = of (is byte x) refl (λ h. lacks_from byte xs h)
   where
-    of : (b : Bool) → is byte x ≡ b → (length xs ≤ place byte xs → LacksByte byte xs) → LacksByte byte (x ∷ xs)
-    of true here rest = absurd (omega (arith, le, ap (λ (b : Bool). cond (not b) (1 + place byte xs) 0) here))
+    of : (b : Bool) → is byte x ≡ b → (length xs ≤ offset byte xs → LacksByte byte xs) → LacksByte byte (x ∷ xs)
+    of true here rest = absurd (omega (arith, le, ap (λ (b : Bool). cond (not b) (1 + offset byte xs) 0) here))
     of false elsewhere rest = (
       (λ same. false≢true (sym elsewhere ∙ eq-eqb x byte same)),
       rest
-          (omega (arith, le, ap (λ (b : Bool). cond (not b) (1 + place byte xs) 0) elsewhere)),
+          (omega (arith, le, ap (λ (b : Bool). cond (not b) (1 + offset byte xs) 0) elsewhere)),
     )
 
 uncut_by : (byte : ℕ) (text : List ℕ) (test : Bool) → holds byte text ≡ test

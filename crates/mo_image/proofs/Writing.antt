@@ -5,10 +5,10 @@ use Rattle.std.proofs.lemmas.List.{drop_more}
 use Rattle.std.proofs.lemmas.List.Concat.{flat_map-cons}
 use Rattle.std.proofs.lemmas.Option.{get_or_from_slice_get, slice_get_within}
 use Rattle.mo_image.specs.Entry.{Entry}
-use Rattle.mo_image.specs.MoFile.{word, pairs, closed, pool, header, spelling}
+use Rattle.mo_image.specs.MoFile.{word, pairs, with_nul, pool, header, spelling}
 use Rattle.mo_image.specs.Map.{IsLawful}
 use Rattle.mo_image.proofs.Lists.{slice_get-map}
-use Rattle.mo_image.proofs.MoLengths.{length-closed, length-spelling}
+use Rattle.mo_image.proofs.MoLengths.{length-with_nul, length-spelling}
 use Rattle.mo_image.specs.declared.writer.Side.{Side}
 use Rattle.mo_image.specs.declared.writer.Side.TheVariants.{Original, Translation}
 use Rattle.mo_image.specs.Strings.{string_of, strings_of}
@@ -24,13 +24,13 @@ module _ (side : Side) (m : List Entry) (i : ℕ) (e : Entry) (found : slice_get
   strings_split : left i ≡ string_of side e ∷ left (i + 1)
   strings_split = drop_found (strings_of side m) i (string_of side e) (slice_get-map (string_of side) m i e found)
 
-  pub pool_split : pool (left i) ≡ closed (string_of side e) ++ pool (left (i + 1))
-  pool_split = ap pool strings_split ∙ flat_map-cons closed (string_of side e) (left (i + 1))
+  pub pool_split : pool (left i) ≡ with_nul (string_of side e) ++ pool (left (i + 1))
+  pool_split = ap pool strings_split ∙ flat_map-cons with_nul (string_of side e) (left (i + 1))
 
   pub length-pool_split : length (pool (left i)) ≡ length (string_of side e) + 1 + length (pool (left (i + 1)))
   length-pool_split =
-      let both = ap length pool_split ∙ length-append (closed (string_of side e)) (pool (left (i + 1))) in
-      omega (arith, both, length-closed (string_of side e))
+      let both = ap length pool_split ∙ length-append (with_nul (string_of side e)) (pool (left (i + 1))) in
+      omega (arith, both, length-with_nul (string_of side e))
 
   pub pairs_split : (at : ℕ) → pairs at (left i)
       ≡ (word (length (string_of side e)) ++ word at) ++ pairs (at + length (string_of side e) + 1) (left (i + 1))

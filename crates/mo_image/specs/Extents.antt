@@ -18,15 +18,15 @@ pub record HoldsPiece (bytes : List ℕ) (extent : Extent) : Type 0 where
   pub utf8 : IsUtf8 (piece bytes extent)
 
 -- the bytes of an extent are followed by a NUL
-pub record HoldsClosed (bytes : List ℕ) (extent : Extent) : Type 0 where
+pub record HoldsWithNul (bytes : List ℕ) (extent : Extent) : Type 0 where
   pub piece : HoldsPiece bytes extent
   pub room : extent.start + extent.len < length bytes
   pub nul : slice_index bytes (extent.start + extent.len) ≡ 0
 
--- the extent has the length and the offset that the row at this place holds
-pub record IsNamedAt (bytes : List ℕ) (place : ℕ) (extent : Extent) : Type 0 where
-  pub len : extent.len ≡ word_at little_number bytes place
-  pub start : extent.start ≡ word_at little_number bytes (place + 4)
+-- the extent has the length and the offset that the row at this offset holds
+pub record IsNamedAt (bytes : List ℕ) (offset : ℕ) (extent : Extent) : Type 0 where
+  pub len : extent.len ≡ word_at little_number bytes offset
+  pub start : extent.start ≡ word_at little_number bytes (offset + 4)
 
 -- the extents of the texts of the i-th of n entries in a file
 pub record AreTextsOf (bytes : List ℕ) (n i : ℕ) (texts : TextExtents) : Type 0 where

@@ -17,8 +17,8 @@ pub record IsImage (bytes : List ℕ) : Type 0 where
   pub lawful : IsLawful (listing bytes)
   pub spelt : bytes ≡ spelling (listing bytes)
 
--- the row at this place lies in the bytes, and so does the text that it names, with one more byte after it
-pub record NamesText (bytes : List ℕ) (place : ℕ) : Type 0 where
-  pub row : place + 8 ≤ length bytes
-  pub room : word_at little_number bytes (place + 4) + word_at little_number bytes place < length bytes
-  pub utf8 : IsUtf8 (string_at little_number bytes place)
+-- the row at this offset lies in the bytes, and so does the text that it names, with one more byte after it
+pub record NamesText (bytes : List ℕ) (offset : ℕ) : Type 0 where
+  pub row : offset + 8 ≤ length bytes
+  pub room : word_at little_number bytes (offset + 4) + word_at little_number bytes offset < length bytes
+  pub utf8 : IsUtf8 (string_at little_number bytes offset)

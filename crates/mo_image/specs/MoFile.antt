@@ -26,12 +26,12 @@ abbrev pub pairs : ℕ → List (List ℕ) → List ℕ
 pairs at [] = []
 pairs at (s ∷ ss) = word (length s) ++ word at ++ pairs (at + length s + 1) ss
 
-abbrev pub closed : List ℕ → List ℕ
-closed s = s ++ (0 ∷ [])
+abbrev pub with_nul : List ℕ → List ℕ
+with_nul s = s ++ (0 ∷ [])
 
 -- all strings one after another, each with a NUL after it
 abbrev pub pool : List (List ℕ) → List ℕ
-pool ss = flat_map closed ss
+pool ss = flat_map with_nul ss
 
 -- the magic number, the revision, the number of strings, the offsets of the two tables, and an empty hash table after
 -- them
@@ -51,4 +51,4 @@ spelling m = file (length m) (map original m) (map translation m)
 
 -- the number of bytes that an entry takes in the file: a row in each table, and its two strings
 abbrev pub entry_size : Entry → ℕ
-entry_size e = 16 + length (closed (original e)) + length (closed (translation e))
+entry_size e = 16 + length (with_nul (original e)) + length (with_nul (translation e))

@@ -20,7 +20,7 @@ paired_entries [] ts = []
 paired_entries (o ∷ os) [] = []
 paired_entries (o ∷ os) (t ∷ ts) = entry_of o t ∷ paired_entries os ts
 
--- the byte at this place is a NUL
-pub record HasNulAt (text : List ℕ) (place : ℕ) : Type 0 where
-  pub within : place < length text
-  pub nul : slice_index text place ≡ 0
+-- the byte at this offset is a NUL
+pub record HasNulAt (text : List ℕ) (offset : ℕ) : Type 0 where
+  pub within : offset < length text
+  pub nul : slice_index text offset ≡ 0

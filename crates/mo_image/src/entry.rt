@@ -2,11 +2,11 @@
 ghost use Rattle.std.specs.Prelude.{◌≡◌, ◌<◌, ◌==◌, ◌∷◌, length, slice_get, Some, IfSome, option_map};
 ghost use Rattle.std.specs.List.{count_by, slice_split};
 ghost use Rattle.mo_image.specs.Entry.{IsLawfulEntry, key, translation};
-ghost use Rattle.mo_image.specs.MoFile.{closed};
+ghost use Rattle.mo_image.specs.MoFile.{with_nul};
 ghost use Rattle.byte_text.specs.Cut.{cut, offset_of};
 ghost use Rattle.mo_image.specs.Parts.{forms_left};
 ghost use Rattle.mo_image.specs.Pairs.{key_part, plural_part};
-ghost use Rattle.mo_image.specs.Lent.{IsClosedCut, IsClosedFormOf, IsLent};
+ghost use Rattle.mo_image.specs.Lent.{IsCutWithNul, IsFormWithNulOf, IsLent};
 
 use byte_text::{offset_of, split_at_byte, split_at_offset};
 use std::marker::Model;
@@ -35,8 +35,8 @@ pub fn split_form(text: &str) -> (&str, Option<&str>)
 }
 
 /// Splits the first form off a text in which every form is followed by a NUL. The form keeps its NUL.
-fn split_closed(forms: &str) -> (&[u8], &str)
-    ensures { IfSome (cut 0 forms.now) (λ parts. IsClosedCut parts result.0.now result.1.now) }
+fn split_with_nul(forms: &str) -> (&[u8], &str)
+    ensures { IfSome (cut 0 forms.now) (λ parts. IsCutWithNul parts result.0.now result.1.now) }
 {
     match split_at_byte(forms, NUL) {
         Some((form, others)) => (&forms.as_bytes()[..=form.len()], others),
@@ -97,15 +97,15 @@ fn form_at(translation: &str, k: usize) -> &str
 }
 
 /// Returns the form with this index and its NUL, from a translation with its NUL, by scanning the forms before it.
-fn closed_form_at(forms: &str, k: usize) -> &[u8]
-    ensures { IsClosedFormOf forms.now k result.now }
+fn form_with_nul_at(forms: &str, k: usize) -> &[u8]
+    ensures { IsFormWithNulOf forms.now k result.now }
 {
     let mut left = forms;
     'skipped: for _i in 0..k {
-        let (_, others) = split_closed(left);
+        let (_, others) = split_with_nul(left);
         left = others;
     }
-    let (form, _) = split_closed(left);
+    let (form, _) = split_with_nul(left);
     form
 }
 
@@ -155,7 +155,7 @@ pub struct EntryRef<'a> {
     /// The forms, with NUL between them.
     translation: &'a str,
     /// The translation with the NUL after it.
-    closed: &'a str,
+    with_nul: &'a str,
 }
 
 impl<'a> Model for EntryRef<'a> {
@@ -168,7 +168,7 @@ impl<'a> Model for EntryRef<'a> {
 
     ghost view = { λ e. entry_of e.original.now e.translation.now };
 
-    ghost invariant = { λ e. IsLent e.original.now e.key_len e.translation.now e.closed.now };
+    ghost invariant = { λ e. IsLent e.original.now e.key_len e.translation.now e.with_nul.now };
 }
 
 impl<'a> EntryRef<'a> {
@@ -180,16 +180,16 @@ impl<'a> EntryRef<'a> {
         original: &'a str,
         key_len: usize,
         translation: &'a str,
-        closed: &'a str,
+        with_nul: &'a str,
     ) -> EntryRef<'a>
-        requires { IsLent original.now key_len translation.now closed.now }
+        requires { IsLent original.now key_len translation.now with_nul.now }
         ensures { result ≡ entry_of original.now translation.now }
     {
         EntryRef {
             original,
             key_len,
             translation,
-            closed,
+            with_nul,
         }
     }
 
@@ -276,13 +276,13 @@ impl<'a> EntryRef<'a> {
 
     /// Returns the form with this index, followed by a NUL: a C string. It is found as by `form`.
     #[inline(always)]
-    pub fn closed_form(&self, k: usize) -> &'a [u8]
+    pub fn form_with_nul(&self, k: usize) -> &'a [u8]
         requires { k < length self.now.forms }
-        ensures { IfSome (slice_get self.now.forms k) (λ form. result.now ≡ closed form) }
+        ensures { IfSome (slice_get self.now.forms k) (λ form. result.now ≡ with_nul form) }
     {
         match self.plural() {
-            Some(_) => closed_form_at(self.closed, k),
-            None => self.closed.as_bytes(),
+            Some(_) => form_with_nul_at(self.with_nul, k),
+            None => self.with_nul.as_bytes(),
         }
     }
 }

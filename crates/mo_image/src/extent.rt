@@ -2,8 +2,8 @@
 ghost use Rattle.std.specs.Prelude.{◌≡◌, ◌+◌, ◌≤◌, length, IfNone, IfSome};
 ghost use Rattle.byteorder.specs.Endian.{little_number};
 ghost use Rattle.mo_image.specs.Tables.{word_at};
-ghost use Rattle.mo_image.specs.Extents.{no_len, piece, unpacked, HoldsClosed, HoldsPiece, IsNamedAt};
-ghost use Rattle.mo_image.specs.MoFile.{closed};
+ghost use Rattle.mo_image.specs.Extents.{no_len, piece, unpacked, HoldsWithNul, HoldsPiece, IsNamedAt};
+ghost use Rattle.mo_image.specs.MoFile.{with_nul};
 
 use byteorder::{ByteOrder, LittleEndian};
 
@@ -115,13 +115,13 @@ impl EntryExtents {
 
 /// Reads a row of a table: the length and the offset of a string.
 #[inline(always)]
-pub(crate) fn extent_at(bytes: &[u8], place: usize) -> Extent
-    requires { place + 8 ≤ length bytes.now }
-    ensures { IsNamedAt bytes.now place result }
+pub(crate) fn extent_at(bytes: &[u8], offset: usize) -> Extent
+    requires { offset + 8 ≤ length bytes.now }
+    ensures { IsNamedAt bytes.now offset result }
 {
     Extent {
-        start: LittleEndian::read_u32(&bytes[place + 4..]),
-        len: LittleEndian::read_u32(&bytes[place..]),
+        start: LittleEndian::read_u32(&bytes[offset + 4..]),
+        len: LittleEndian::read_u32(&bytes[offset..]),
     }
 }
 
@@ -138,9 +138,9 @@ pub(crate) fn text_in(bytes: &[u8], extent: Extent) -> &str
 
 /// Returns the text at this extent, with the NUL after it.
 #[inline(always)]
-pub(crate) fn closed_in(bytes: &[u8], extent: Extent) -> &str
-    requires { HoldsClosed bytes.now extent }
-    ensures { result.now ≡ closed (piece bytes.now extent) }
+pub(crate) fn text_with_nul_in(bytes: &[u8], extent: Extent) -> &str
+    requires { HoldsWithNul bytes.now extent }
+    ensures { result.now ≡ with_nul (piece bytes.now extent) }
 {
     let start = extent.start as usize;
     let end = start + extent.len as usize;

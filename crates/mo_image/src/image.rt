@@ -12,7 +12,7 @@ ghost use Rattle.mo_image.specs.Image.{listing, IsImage, NamesText};
 ghost use Rattle.mo_image.specs.Extents.{AreExtents, AreExtentsOf, AreTexts, AreTextsOf};
 
 use crate::EntryRef;
-use crate::extent::{EntryExtents, TextExtents, closed_in, extent_at, text_in};
+use crate::extent::{EntryExtents, TextExtents, extent_at, text_in, text_with_nul_in};
 use crate::layout::{COUNT_AT, HEADER_LEN, ROW_LEN};
 use crate::writer::{EntryList, spell};
 use byte_text::offset_of;
@@ -45,20 +45,20 @@ impl Model for Image {
 
 /// Reads a word of 32 bits.
 #[inline(always)]
-fn word(bytes: &[u8], place: usize) -> usize
-    requires { place + 4 ≤ length bytes.now }
-    ensures { result ≡ word_at little_number bytes.now place }
+fn word(bytes: &[u8], offset: usize) -> usize
+    requires { offset + 4 ≤ length bytes.now }
+    ensures { result ≡ word_at little_number bytes.now offset }
 {
-    LittleEndian::read_u32(&bytes[place..]) as usize
+    LittleEndian::read_u32(&bytes[offset..]) as usize
 }
 
-/// Returns the text that the row at this place names.
+/// Returns the text that the row at this offset names.
 #[inline(always)]
-fn text(bytes: &[u8], place: usize) -> &str
-    requires { NamesText bytes.now place }
-    ensures { result.now ≡ string_at little_number bytes.now place }
+fn text(bytes: &[u8], offset: usize) -> &str
+    requires { NamesText bytes.now offset }
+    ensures { result.now ≡ string_at little_number bytes.now offset }
 {
-    text_in(bytes, extent_at(bytes, place))
+    text_in(bytes, extent_at(bytes, offset))
 }
 
 /// The number of entries, by the header.
@@ -84,7 +84,7 @@ fn original_of(bytes: &[u8], i: usize) -> &str
 #[inline(always)]
 fn key_len(original: &str) -> u32
     requires { length original.now < 4294967296 }
-    ensures place { result ≡ offset_of 0 original.now }
+    ensures offset { result ≡ offset_of 0 original.now }
     ensures within { result ≤ length original.now }
 {
     offset_of(original.as_bytes(), 0) as u32
@@ -119,7 +119,7 @@ fn entry_of<'a>(bytes: &'a [u8], texts: &TextExtents) -> EntryRef<'a>
         text_in(bytes, texts.original),
         texts.key_len as usize,
         text_in(bytes, texts.translation),
-        closed_in(bytes, texts.translation),
+        text_with_nul_in(bytes, texts.translation),
     )
 }
 

@@ -5,7 +5,7 @@
 ghost use Rattle.std.specs.Prelude.{◌≡◌, ◌+◌, ◌*◌, ◌^◌, ◌<◌, ◌++◌, List, length, IfOk, OnOk, Some, slice_get};
 ghost use Rattle.mo_image.specs.Entry.{Entry, original, translation};
 ghost use Rattle.mo_image.specs.Map.{IsLawful};
-ghost use Rattle.mo_image.specs.MoFile.{header_len, word, closed, pool, pairs, header, spelling};
+ghost use Rattle.mo_image.specs.MoFile.{header_len, word, with_nul, pool, pairs, header, spelling};
 ghost use Rattle.mo_image.specs.Strings.{string_of, strings_of};
 
 use crate::layout::{self, MAGIC};
@@ -77,32 +77,32 @@ fn push_word(out: &mut Vec<u8>, n: u32) -> Result<(), AllocError>
 }
 
 /// Appends a text and a NUL.
-fn push_closed(out: &mut Vec<u8>, text: &str) -> Result<(), AllocError>
-    ensures { OnOk result (out.new.items ≡ out.old.items ++ closed text.now) }
+fn push_with_nul(out: &mut Vec<u8>, text: &str) -> Result<(), AllocError>
+    ensures { OnOk result (out.new.items ≡ out.old.items ++ with_nul text.now) }
 {
     out.extend_from_slice(text.as_bytes())?;
     out.push(0)?;
     Ok(())
 }
 
-/// Appends the original, closed: the key and a NUL, and the plural and a NUL if there is one.
+/// Appends the original with its NUL: the key and a NUL, and the plural and a NUL if there is one.
 fn push_original(out: &mut Vec<u8>, entry: &EntryStrings<'_>) -> Result<(), AllocError>
-    ensures { OnOk result (out.new.items ≡ out.old.items ++ closed (original entry.now)) }
+    ensures { OnOk result (out.new.items ≡ out.old.items ++ with_nul (original entry.now)) }
 {
-    push_closed(out, entry.key())?;
+    push_with_nul(out, entry.key())?;
     if let Some(plural) = entry.plural() {
-        push_closed(out, plural)?;
+        push_with_nul(out, plural)?;
     }
     Ok(())
 }
 
-/// Appends the string of one side, closed.
+/// Appends the string of one side, with its NUL.
 fn push_string(out: &mut Vec<u8>, side: Side, entry: &EntryStrings<'_>) -> Result<(), AllocError>
-    ensures { OnOk result (out.new.items ≡ out.old.items ++ closed (string_of side entry.now)) }
+    ensures { OnOk result (out.new.items ≡ out.old.items ++ with_nul (string_of side entry.now)) }
 {
     match side {
         Side::Original => push_original(out, entry),
-        Side::Translation => push_closed(out, entry.translation()),
+        Side::Translation => push_with_nul(out, entry.translation()),
     }
 }
 

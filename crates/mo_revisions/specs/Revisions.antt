@@ -47,7 +47,7 @@ pub record IsStaticSound (file : File) : Type 0 where
   pub known : IsKnownRevision file
   pub bounds : Passes file Bounds
   pub fits : Passes file Swollen
-  pub closed : Passes file NoNul
+  pub with_nul : Passes file NoNul
   pub rise : Passes file Order
 
 -- ---- the system-dependent messages

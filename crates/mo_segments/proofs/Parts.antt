@@ -3,8 +3,8 @@ use Rattle.std.proofs.Common.{◌≡◌, ℕ, ◌+◌, ◌*◌, ◌<◌, List, [
 use Rattle.std.proofs.Common.{◌∙◌, arith, append_assoc, length-append}
 use Rattle.std.proofs.lemmas.List.{drop_more, length-map, get_or-map}
 use Rattle.std.proofs.lemmas.List.Concat.{flat_map-cons}
-use Rattle.mo_image.specs.MoFile.{word, pairs, closed, pool, header, file}
-use Rattle.mo_image.proofs.MoLengths.{length-closed, length-pairs, length-word}
+use Rattle.mo_image.specs.MoFile.{word, pairs, with_nul, pool, header, file}
+use Rattle.mo_image.proofs.MoLengths.{length-with_nul, length-pairs, length-word}
 use Rattle.mo_segments.specs.MessageStrings.{strings_in, strings_of}
 use Rattle.mo_segments.specs.Flat.{flat_file}
 use Rattle.mo_segments.specs.Writing.{side_of, sides_of}
@@ -21,13 +21,13 @@ module _ {X : Type 0} (f : X → List ℕ) (ms : List X) (i : ℕ) (x : X) (lt :
       drop_more (map f ms) i (f x) short
       ∙ ap (λ (y : List ℕ). y ∷ drop (i + 1) (map f ms)) (get_or-map f ms i x (f x) lt ∙ sym (ap f is))
 
-  pub pool_split : pool (left i) ≡ closed (f x) ++ pool (left (i + 1))
-  pool_split = ap pool strings_split ∙ flat_map-cons closed (f x) (left (i + 1))
+  pub pool_split : pool (left i) ≡ with_nul (f x) ++ pool (left (i + 1))
+  pool_split = ap pool strings_split ∙ flat_map-cons with_nul (f x) (left (i + 1))
 
   pub length-pool_split : length (pool (left i)) ≡ length (f x) + 1 + length (pool (left (i + 1)))
   length-pool_split =
-      let both = ap length pool_split ∙ length-append (closed (f x)) (pool (left (i + 1))) in
-      omega (arith, both, length-closed (f x))
+      let both = ap length pool_split ∙ length-append (with_nul (f x)) (pool (left (i + 1))) in
+      omega (arith, both, length-with_nul (f x))
 
   pub pairs_split : (at : ℕ) → pairs at (left i)
       ≡ (word (length (f x)) ++ word at) ++ pairs (at + length (f x) + 1) (left (i + 1))

@@ -1,6 +1,6 @@
 //! Writes the flat file of messages: the MO file of revision 0 with the same messages (GNU gettext manual, "MO Files").
 ghost use Rattle.std.specs.Prelude.{◌≡◌, ◌+◌, ◌*◌, ◌^◌, ◌<◌, ◌≤◌, ◌++◌, length, IfOk, OnOk, MatchOption};
-ghost use Rattle.mo_image.specs.MoFile.{header_len, word, closed, pool, pairs, header, most_file};
+ghost use Rattle.mo_image.specs.MoFile.{header_len, word, with_nul, pool, pairs, header, most_file};
 ghost use Rattle.mo_segments.specs.MessageStrings.{strings_of};
 ghost use Rattle.mo_segments.specs.Flat.{flat_file};
 ghost use Rattle.mo_segments.specs.Writing.{side_of, sides_of};

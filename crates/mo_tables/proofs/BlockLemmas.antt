@@ -15,7 +15,7 @@ use Rattle.mo_tables.proofs.KeyOrder.{both_alike, at_end}
 abbrev start : List ℕ → ℕ → ℕ
 start starts k = get_or starts k 0
 
--- the bytes of a block, by their places in the file
+-- the bytes of a block, by their offsets in the file
 byte_of : (bytes starts : List ℕ) (k : ℕ) (text : List ℕ) → IsText bytes starts k text → (i : ℕ)
     → start starts k + i < start starts (k + 1) → get_or text i 0 ≡ get_or bytes (start starts k + i) 0
 byte_of bytes starts k text is i lt = ap (λ l. get_or l i 0) is.same

@@ -17,8 +17,8 @@ use Rattle.mo_image.proofs.EntryParts.{lacks_at}
 abbrev pub is : ℕ → ℕ → Bool
 is byte b = eqb b byte
 
-abbrev pub place : ℕ → List ℕ → ℕ
-place byte text = position_or_len (is byte) text
+abbrev pub offset : ℕ → List ℕ → ℕ
+offset byte text = position_or_len (is byte) text
 
 abbrev one : Bool → ℕ
 one b = cond b 1 0
@@ -27,36 +27,36 @@ count-cons : (byte x : ℕ) (xs : List ℕ) → count_by (is byte) (x ∷ xs) �
 count-cons byte x xs = sum_by-cons (λ y. cond (eqb y byte) 1 0) x xs
 
 abbrev pub holds : ℕ → List ℕ → Bool
-holds byte text = ltb (place byte text) (length text)
+holds byte text = ltb (offset byte text) (length text)
 
 not_true : (b : Bool) → (b ≡ true → ⊥) → b ≡ false
 not_true true h = absurd (h refl)
 not_true false h = refl
 
 -- where a search finds the byte
-pub place_found : (byte : ℕ) (text : List ℕ) (r : Option ℕ) → IsFirstByte (is_byte byte) text r → place byte text
+pub offset_found : (byte : ℕ) (text : List ℕ) (r : Option ℕ) → IsFirstByte (is_byte byte) text r → offset byte text
     ≡ unwrap_or r (length text)
-place_found byte text None none = position_or_len_is (is byte) text (length text) 0 (omega arith)
+offset_found byte text None none = position_or_len_is (is byte) text (length text) 0 (omega arith)
     (λ i lt. not_true _ (none i (omega arith) lt)) (λ lt. absurd (omega arith))
-place_found byte text (Some k) some = position_or_len_is (is byte) text k 0 (omega (arith, some.0.high))
+offset_found byte text (Some k) some = position_or_len_is (is byte) text k 0 (omega (arith, some.0.high))
     (λ i lt. not_true _ (some.0.before i (omega arith) lt)) (λ lt. some.1)
 
 -- the key of an original, by its first NUL
 pub key_found : (text : List ℕ) (k : ℕ) → IsFirstByte (is_byte 0) text (Some k) → take k text ≡ before_first (is 0) text
-key_found text k found = ap (λ n. take n text) (sym (place_found 0 text (Some k) found))
+key_found text k found = ap (λ n. take n text) (sym (offset_found 0 text (Some k) found))
 
 pub key_whole : (text : List ℕ) → IsFirstByte (is_byte 0) text None → text ≡ before_first (is 0) text
 key_whole text none =
-    let at : place 0 text ≡ length text = place_found 0 text None none in
-    sym (take_all (place 0 text) text (omega (arith, at)))
+    let at : offset 0 text ≡ length text = offset_found 0 text None none in
+    sym (take_all (offset 0 text) text (omega (arith, at)))
 
 -- ---- where the byte is, and where it isn't
 
-byte_there : (byte : ℕ) (text : List ℕ) → place byte text < length text → get_or text (place byte text) 0 ≡ byte
+byte_there : (byte : ℕ) (text : List ℕ) → offset byte text < length text → get_or text (offset byte text) 0 ≡ byte
 byte_there byte text lt = eqb-true _ _ (passes_at_first (is byte) text 0 lt)
 
-whole : (byte : ℕ) (text : List ℕ) → length text ≤ place byte text → before_first (is byte) text ≡ text
-whole byte text le = take_all (place byte text) text le
+whole : (byte : ℕ) (text : List ℕ) → length text ≤ offset byte text → before_first (is byte) text ≡ text
+whole byte text le = take_all (offset byte text) text le
 
 other : (x byte : ℕ) → eqb x byte ≡ false → x ≢ byte
 other x byte differ same = let yes : eqb x byte ≡ true = eq-eqb x byte same in absurd cc
@@ -71,7 +71,7 @@ front_step byte x xs k rest false e =
 
 pub front_lacks : (byte : ℕ) (text : List ℕ) → LacksByte byte (before_first (is byte) text)
 front_lacks byte [] = tt
-front_lacks byte (x ∷ xs) = front_step byte x xs (place byte xs) (front_lacks byte xs) (eqb x byte) refl
+front_lacks byte (x ∷ xs) = front_step byte x xs (offset byte xs) (front_lacks byte xs) (eqb x byte) refl
 
 pub absent : (byte : ℕ) (text : List ℕ) → holds byte text ≡ false → LacksByte byte text
 absent byte text e = subst (LacksByte byte) (whole byte text (ltb-false _ _ e)) (front_lacks byte text)
@@ -92,11 +92,11 @@ count_none byte (x ∷ xs) lacks =
     let differs : eqb x byte ≡ false = not_true (eqb x byte) (λ e. lacks.0 (eqb-true x byte e)) in
     omega (arith, count-cons byte x xs, ap one differs, count_none byte xs lacks.1)
 
--- the byte occurs at most once, and so not after its first place
-pub behind_lacks : (byte : ℕ) (text : List ℕ) → place byte text < length text → count_by (is byte) text ≤ 1
+-- the byte occurs at most once, and so not after its first offset
+pub behind_lacks : (byte : ℕ) (text : List ℕ) → offset byte text < length text → count_by (is byte) text ≤ 1
     → LacksByte byte (after_first (is byte) text)
 behind_lacks byte text lt once =
-    let y : ℕ = get_or text (place byte text) 0 in
+    let y : ℕ = get_or text (offset byte text) 0 in
     let counted : count_by (is byte) text ≡ count_by (is byte) (before_first (is byte) text) + count_by (is byte)
     (y ∷ after_first (is byte) text) =
     ap (count_by (is byte)) (split_at_first (is byte) text 0 lt)
@@ -114,15 +114,15 @@ behind_lacks byte text lt once =
 -- how often a byte that was found occurs in a text
 pub count_absent : (byte : ℕ) (text : List ℕ) → IsFirstByte (is_byte byte) text None → count_by (is byte) text ≡ 0
 count_absent byte text none =
-    let at : place byte text ≡ length text = place_found byte text None none in
+    let at : offset byte text ≡ length text = offset_found byte text None none in
     count_none byte text (subst (LacksByte byte) (whole byte text (omega (arith, at))) (front_lacks byte text))
 
 pub count_past : (byte : ℕ) (text : List ℕ) (k : ℕ) → IsFirstByte (is_byte byte) text (Some k) → count_by (is byte) text
     ≡ 1 + count_by (is byte) (drop (k + 1) text)
 count_past byte text k found =
-    let at : place byte text ≡ k = place_found byte text (Some k) found in
-    let lt : place byte text < length text = omega (arith, at, found.0.high) in
-    let y : ℕ = get_or text (place byte text) 0 in
+    let at : offset byte text ≡ k = offset_found byte text (Some k) found in
+    let lt : offset byte text < length text = omega (arith, at, found.0.high) in
+    let y : ℕ = get_or text (offset byte text) 0 in
     let counted : count_by (is byte) text ≡ count_by (is byte) (before_first (is byte) text) + count_by (is byte)
     (y ∷ after_first (is byte) text) =
     ap (count_by (is byte)) (split_at_first (is byte) text 0 lt)
@@ -149,18 +149,18 @@ LacksByte-drop byte (suc n) (x ∷ xs) lacks = LacksByte-drop byte n xs lacks.1
 front_by : (byte : ℕ) (text : List ℕ) → byte < 128 → IsUtf8 text → (test : Bool) → holds byte text ≡ test
     → IsUtf8 (before_first (is byte) text)
 front_by byte text ascii utf8 true e =
-    let lt : place byte text < length text = ltb-true _ _ e in
-    IsUtf8-take text (place byte text) utf8 (IsCharBoundary-before_ascii text (place byte text) lt
+    let lt : offset byte text < length text = ltb-true _ _ e in
+    IsUtf8-take text (offset byte text) utf8 (IsCharBoundary-before_ascii text (offset byte text) lt
     (omega (arith, byte_there byte text lt)))
 front_by byte text ascii utf8 false e = subst IsUtf8 (sym (whole byte text (ltb-false _ _ e))) utf8
 
 pub front_utf8 : (byte : ℕ) (text : List ℕ) → byte < 128 → IsUtf8 text → IsUtf8 (before_first (is byte) text)
 front_utf8 byte text ascii utf8 = front_by byte text ascii utf8 (holds byte text) refl
 
-pub behind_utf8 : (byte : ℕ) (text : List ℕ) → byte < 128 → IsUtf8 text → place byte text < length text
+pub behind_utf8 : (byte : ℕ) (text : List ℕ) → byte < 128 → IsUtf8 text → offset byte text < length text
     → IsUtf8 (after_first (is byte) text)
 behind_utf8 byte text ascii utf8 lt =
-    IsUtf8-drop text (place byte text + 1) utf8 (IsCharBoundary-after_ascii text (place byte text) utf8 lt
+    IsUtf8-drop text (offset byte text + 1) utf8 (IsCharBoundary-after_ascii text (offset byte text) utf8 lt
     (omega (arith, byte_there byte text lt)))
 
 -- ---- the forms of a translation
@@ -180,7 +180,7 @@ parts_by : (n : ℕ) (text : List ℕ) → length text ≤ n → IsUtf8 text
     → ((rest : List ℕ) → length rest < n → IsUtf8 rest → AllByRecursion IsText (slice_split (is 0) rest))
     → (test : Bool) → holds 0 text ≡ test → AllByRecursion IsText (slice_split (is 0) text)
 parts_by n text short utf8 more true e =
-    let lt : place 0 text < length text = ltb-true _ _ e in
+    let lt : offset 0 text < length text = ltb-true _ _ e in
     let first : IsText (before_first (is 0) text) = record {
       utf8 = front_utf8 0 text (omega arith) utf8;
       no_nul =
@@ -188,7 +188,7 @@ parts_by n text short utf8 more true e =
     } in
     subst (AllByRecursion IsText) (sym (slice_split_first (is 0) text 0 lt)) (
       first,
-      more (after_first (is 0) text) (omega (arith, length-drop (place 0 text + 1) text, lt, short))
+      more (after_first (is 0) text) (omega (arith, length-drop (offset 0 text + 1) text, lt, short))
           (behind_utf8 0 text (omega arith) utf8 lt),
     )
 parts_by n text short utf8 more false e =

@@ -1,4 +1,4 @@
--- The order of two keys, by the first place where they differ.
+-- The order of two keys, by the first offset where they differ.
 use Rattle.std.proofs.Common.{◌≡◌, ◌≢◌, ◌↔◌, ℕ, zero, suc, ◌+◌, ◌<◌, ◌≤◌, List, [], ◌∷◌, take, drop, get_or, cond, not}
 use Rattle.std.proofs.Common.{eqb, Bool, true, false}
 use Rattle.std.proofs.Common.{◌-◌, ◌*◌, ◌/◌, ◌%◌, length, min, max, None, inl, inr, refl, sym, ap, ◌∙◌, arith}
@@ -34,16 +34,16 @@ key_by x xs false e =
     ap (λ b. take (cond (not b) (1 + position_or_len (is 0) xs) 0) (x ∷ xs)) e ∙ ap (λ k. take k (x ∷ xs)) n
 
 -- a key ends at its NUL
-closed_by : (x : ℕ) (xs : List ℕ) (n : ℕ) → before_nul xs ≡ before_nul (take n xs) → (b : Bool) → eqb x 0 ≡ b
+with_nul_by : (x : ℕ) (xs : List ℕ) (n : ℕ) → before_nul xs ≡ before_nul (take n xs) → (b : Bool) → eqb x 0 ≡ b
     → before_nul (x ∷ xs) ≡ before_nul (x ∷ take n xs)
-closed_by x xs n rest true e = key_by x xs true e ∙ sym (key_by x (take n xs) true e)
-closed_by x xs n rest false e = key_by x xs false e ∙ ap (λ k. x ∷ k) rest ∙ sym (key_by x (take n xs) false e)
+with_nul_by x xs n rest true e = key_by x xs true e ∙ sym (key_by x (take n xs) true e)
+with_nul_by x xs n rest false e = key_by x xs false e ∙ ap (λ k. x ∷ k) rest ∙ sym (key_by x (take n xs) false e)
 
-pub closed_key : (text : List ℕ) (n : ℕ) → n < length text → get_or text n 0 ≡ 0 → before_nul text
+pub key_with_nul : (text : List ℕ) (n : ℕ) → n < length text → get_or text n 0 ≡ 0 → before_nul text
     ≡ before_nul (take n text)
-closed_key [] n lt nul = absurd (omega (arith, lt))
-closed_key (x ∷ xs) zero lt nul = key_by x xs true (eq-eqb x 0 nul)
-closed_key (x ∷ xs) (suc n) lt nul = closed_by x xs n (closed_key xs n (omega (arith, lt)) nul) (eqb x 0) refl
+key_with_nul [] n lt nul = absurd (omega (arith, lt))
+key_with_nul (x ∷ xs) zero lt nul = key_by x xs true (eq-eqb x 0 nul)
+key_with_nul (x ∷ xs) (suc n) lt nul = with_nul_by x xs n (key_with_nul xs n (omega (arith, lt)) nul) (eqb x 0) refl
 
 -- ---- keys that differ at their first byte
 
@@ -209,9 +209,9 @@ ends_there bytes a limit more all stops same =
 abbrev pub KeyBelow : List ℕ → ℕ → ℕ → Type 0
 KeyBelow bytes a b = IsBelow (key_from bytes a) (key_from bytes b)
 
-shifted : (bytes : List ℕ) (start i place : ℕ) → start + i ≡ place → get_or (drop start bytes) i 0
-    ≡ get_or bytes place 0
-shifted bytes start i place at = get_or-drop start bytes i 0 ∙ ap (λ k. get_or bytes k 0) at
+shifted : (bytes : List ℕ) (start i offset : ℕ) → start + i ≡ offset → get_or (drop start bytes) i 0
+    ≡ get_or bytes offset 0
+shifted bytes start i offset at = get_or-drop start bytes i 0 ∙ ap (λ k. get_or bytes k 0) at
 
 module _ (bytes : List ℕ) (a : Alike) (is : IsAlike bytes a) (low high : ℕ) (at : low + a.distance
     ≡ high) (from : a.from ≤ low)
@@ -263,23 +263,23 @@ module _ (bytes : List ℕ) (a : Alike) (is : IsAlike bytes a) (low high : ℕ) 
       )
 
 -- whether a claim holds, by the bytes at which its keys end or differ
-pub decided : (bytes : List ℕ) (a : Alike) → IsAlike bytes a → (lesser greater place : ℕ) → place ≡ min lesser greater
-    → place + a.distance ≡ max lesser greater → a.from ≤ place → place ≤ a.to
+pub decided : (bytes : List ℕ) (a : Alike) → IsAlike bytes a → (lesser greater offset : ℕ) → offset ≡ min lesser greater
+    → offset + a.distance ≡ max lesser greater → a.from ≤ offset → offset ≤ a.to
     → (get_or bytes a.to 0 ≡ get_or bytes (a.to + a.distance) 0 → get_or bytes a.to 0 ≡ 0)
     → KeyBelow bytes lesser greater
-    ↔ (get_or bytes (lesser + (a.to - place)) 0 < get_or bytes (greater + (a.to - place)) 0)
-decided bytes a is lesser greater place low distance from to differ = elim (cases_lt lesser greater) [
+    ↔ (get_or bytes (lesser + (a.to - offset)) 0 < get_or bytes (greater + (a.to - offset)) 0)
+decided bytes a is lesser greater offset low distance from to differ = elim (cases_lt lesser greater) [
   | inl lt ↦
-      let x : lesser + (a.to - place) ≡ a.to = omega (arith, low, lt, to) in
-      let y : greater + (a.to - place) ≡ a.to + a.distance = omega (arith, low, lt, to, distance) in
+      let x : lesser + (a.to - offset) ≡ a.to = omega (arith, low, lt, to) in
+      let y : greater + (a.to - offset) ≡ a.to + a.distance = omega (arith, low, lt, to, distance) in
       let one = rising bytes a is lesser greater (omega (arith, low, lt, distance)) (omega (arith, low, lt, from))
       (omega (arith, low, lt, to)) differ in
       let l = ap (λ k. get_or bytes k 0) x in
       let g = ap (λ k. get_or bytes k 0) y in
       (λ holds. omega (arith, one.0 holds, l, g), λ less. one.1 (omega (arith, less, l, g)))
   | inr ge ↦
-      let x : lesser + (a.to - place) ≡ a.to + a.distance = omega (arith, low, ge, to, distance) in
-      let y : greater + (a.to - place) ≡ a.to = omega (arith, low, ge, to) in
+      let x : lesser + (a.to - offset) ≡ a.to + a.distance = omega (arith, low, ge, to, distance) in
+      let y : greater + (a.to - offset) ≡ a.to = omega (arith, low, ge, to) in
       let one = falling bytes a is greater lesser (omega (arith, low, ge, distance)) (omega (arith, low, ge, from))
       (omega (arith, low, ge, to)) differ in
       let l = ap (λ k. get_or bytes k 0) x in

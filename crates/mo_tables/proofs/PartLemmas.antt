@@ -152,10 +152,10 @@ joined_utf8 bytes start middle end le more front rest = subst IsUtf8 (sym (part_
     (IsUtf8-append (part bytes start middle) (part bytes middle end) front rest)
 
 -- a part that begins with a character and ends before a NUL
-pub closed_part : (bytes : List ℕ) (s : Stretch) → IsStretch bytes s → (start end : ℕ) → s.start ≤ start → start ≤ end
+pub part_with_nul : (bytes : List ℕ) (s : Stretch) → IsStretch bytes s → (start end : ℕ) → s.start ≤ start → start ≤ end
     → end < s.start + length s.text.now → get_or bytes end 0 ≡ 0 → IsCharBoundary s.text.now (start - s.start)
     → IsUtf8 (part bytes start end)
-closed_part bytes s is start end le more lt nul boundary =
+part_with_nul bytes s is start end le more lt nul boundary =
     let at : s.start + (end - s.start) ≡ end = omega (arith, le, more) in
     let here : get_or s.text.now (end - s.start) 0 ≡ get_or bytes end 0 =
     ap (λ l. get_or l (end - s.start) 0) is.same

@@ -3,15 +3,15 @@ use Rattle.std.proofs.Common.{◌≡◌, ℕ, zero, suc, ◌+◌, ◌-◌, ◌*�
 use Rattle.std.proofs.Common.{subst, arith, length-append}
 use Rattle.std.proofs.lemmas.List.{length-take-le, length-drop}
 use Rattle.std.proofs.lemmas.List.Concat.{flat_map-cons}
-use Rattle.mo_image.specs.MoFile.{closed, pool, file}
-use Rattle.mo_image.proofs.MoLengths.{length-word, length-pairs, length-closed}
+use Rattle.mo_image.specs.MoFile.{with_nul, pool, file}
+use Rattle.mo_image.proofs.MoLengths.{length-word, length-pairs, length-with_nul}
 use Rattle.mo_image.specs.Tables.{word_at, string_at, strings}
 use Rattle.mo_tables.specs.MoTables.{StringLies}
 
-pub length-strings : (number : ℕ → List ℕ → ℕ) (bytes : List ℕ) (place n : ℕ) → length (strings number bytes place n)
+pub length-strings : (number : ℕ → List ℕ → ℕ) (bytes : List ℕ) (offset n : ℕ) → length (strings number bytes offset n)
     ≡ n
-length-strings number bytes place zero = refl
-length-strings number bytes place (suc n) = ap suc (length-strings number bytes (place + 8) n)
+length-strings number bytes offset zero = refl
+length-strings number bytes offset (suc n) = ap suc (length-strings number bytes (offset + 8) n)
 
 pub length-file : (n : ℕ) (os ts : List (List ℕ)) → length os ≡ n → length ts ≡ n → length (file n os ts)
     ≡ 28 + 16 * n + length (pool os) + length (pool ts)
@@ -30,11 +30,11 @@ strings_split number bytes table n i lt =
     ap (strings number bytes (table + 8 * i)) left ∙ ap (λ (p : ℕ). string_at number bytes (table + 8 * i)
     ∷ strings number bytes p (n - (i + 1))) next
 
-pub length-string : (number : ℕ → List ℕ → ℕ) (bytes : List ℕ) (place : ℕ) → StringLies number bytes place
-    → length (string_at number bytes place) ≡ word_at number bytes place
-length-string number bytes place lies =
-    let start : ℕ = word_at number bytes (place + 4) in
-    length-take-le (word_at number bytes place) (drop start bytes) (omega (arith, length-drop start bytes, lies))
+pub length-string : (number : ℕ → List ℕ → ℕ) (bytes : List ℕ) (offset : ℕ) → StringLies number bytes offset
+    → length (string_at number bytes offset) ≡ word_at number bytes offset
+length-string number bytes offset lies =
+    let start : ℕ = word_at number bytes (offset + 4) in
+    length-take-le (word_at number bytes offset) (drop start bytes) (omega (arith, length-drop start bytes, lies))
 
 pub length-pool_row : (number : ℕ → List ℕ → ℕ) (bytes : List ℕ) (table n i : ℕ) → i < n
     → StringLies number bytes (table + 8 * i)
@@ -44,13 +44,13 @@ pub length-pool_row : (number : ℕ → List ℕ → ℕ) (bytes : List ℕ) (ta
 length-pool_row number bytes table n i lt lies =
     let s : List ℕ = string_at number bytes (table + 8 * i) in
     let rest : List (List ℕ) = strings number bytes (table + 8 * (i + 1)) (n - (i + 1)) in
-    let split : pool (strings number bytes (table + 8 * i) (n - i)) ≡ closed s
-    ++ pool rest = ap pool (strings_split number bytes table n i lt) ∙ flat_map-cons closed s rest in
+    let split : pool (strings number bytes (table + 8 * i) (n - i)) ≡ with_nul s
+    ++ pool rest = ap pool (strings_split number bytes table n i lt) ∙ flat_map-cons with_nul s rest in
     omega (
       arith,
       ap length split,
-      length-append (closed s) (pool rest),
-      length-closed s,
+      length-append (with_nul s) (pool rest),
+      length-with_nul s,
       length-string number bytes
           (table + 8 * i) lies,
     )

@@ -9,7 +9,7 @@ use Rattle.std.proofs.lemmas.Bool.{cases_lt}
 use Rattle.mo_tables.specs.declared.rows.Span.{Span}
 use Rattle.mo_tables.specs.FileParts.{part}
 use Rattle.mo_image.specs.Tables.{word_at, string_at}
-use Rattle.mo_tables.specs.MoTables.{table_at, before_nul, IsClosed, TableLies, IsOriginalText, IsTranslationText}
+use Rattle.mo_tables.specs.MoTables.{table_at, before_nul, HasNul, TableLies, IsOriginalText, IsTranslationText}
 use Rattle.mo_tables.specs.MoTables.{HasLawfulForms}
 use Rattle.mo_tables.specs.MoTables.{HasLawfulHeader, AreSound}
 use Rattle.mo_tables.specs.Rows.{span_at, text_in}
@@ -24,7 +24,7 @@ pub record IsSound (o t : List ℕ) : Type 0 where
 
 -- the first i rows are sound, and their keys rise
 pub record SoundTo (number : ℕ → List ℕ → ℕ) (bytes : List ℕ) (o t i : ℕ) : Type 0 where
-  pub closed : (k : ℕ) → k < i → IsClosed number bytes (o + 8 * k) × IsClosed number bytes (t + 8 * k)
+  pub with_nul : (k : ℕ) → k < i → HasNul number bytes (o + 8 * k) × HasNul number bytes (t + 8 * k)
   pub each : (k : ℕ) → k < i → IsSound (string_at number bytes (o + 8 * k)) (string_at number bytes (t + 8 * k))
   pub rise : (k : ℕ) → k + 1 < i
       → slice_cmp nat_cmp (before_nul (string_at number bytes (o + 8 * k)))
@@ -32,7 +32,7 @@ pub record SoundTo (number : ℕ → List ℕ → ℕ) (bytes : List ℕ) (o t i
 
 pub none_yet : (number : ℕ → List ℕ → ℕ) (bytes : List ℕ) (o t i : ℕ) → i ≤ 0 → SoundTo number bytes o t i
 none_yet number bytes o t i le = record {
-  closed = λ k lt. absurd (omega (arith, le, lt));
+  with_nul = λ k lt. absurd (omega (arith, le, lt));
   each = λ k lt. absurd (omega (arith, le, lt));
   rise = λ k lt. absurd (omega (arith, le, lt));
 }
@@ -40,8 +40,8 @@ none_yet number bytes o t i le = record {
 pub all_sound : (number : ℕ → List ℕ → ℕ) (bytes : List ℕ) (o t n i : ℕ) → n ≤ i → SoundTo number bytes o t i
     → AreSound (table_at number bytes o n) (table_at number bytes t n)
 all_sound number bytes o t n i le so_far = record {
-  originals_closed = record { each = λ k lt. (so_far.closed k (omega (arith, le, lt))).0 };
-  translations_closed = record { each = λ k lt. (so_far.closed k (omega (arith, le, lt))).1 };
+  originals_have_nul = record { each = λ k lt. (so_far.with_nul k (omega (arith, le, lt))).0 };
+  translations_have_nul = record { each = λ k lt. (so_far.with_nul k (omega (arith, le, lt))).1 };
   original_texts = record { each = λ k lt. (so_far.each k (omega (arith, le, lt))).original };
   translation_texts = record { each = λ k lt. (so_far.each k (omega (arith, le, lt))).translation };
   forms = record { each = λ k lt. (so_far.each k (omega (arith, le, lt))).forms };
@@ -59,17 +59,17 @@ later_header a o t less = record { accepted = λ e. absurd (not_empty a (before_
 
 -- one more row
 pub one_sound : (number : ℕ → List ℕ → ℕ) (bytes : List ℕ) (o t i : ℕ) → SoundTo number bytes o t i
-    → IsClosed number bytes (o + 8 * i) × IsClosed number bytes (t + 8 * i)
+    → HasNul number bytes (o + 8 * i) × HasNul number bytes (t + 8 * i)
     → IsSound (string_at number bytes (o + 8 * i)) (string_at number bytes (t + 8 * i))
     → (0 < i → slice_cmp nat_cmp (before_nul (string_at number bytes (o + 8 * (i - 1))))
     (before_nul (string_at number bytes (o + 8 * i))) ≡ Less)
     → SoundTo number bytes o t (i + 1)
 one_sound number bytes o t i so_far shut sound rises = record {
-  closed = λ k lt. elim (cases_lt k i) [
-    | inl less ↦ so_far.closed k less
+  with_nul = λ k lt. elim (cases_lt k i) [
+    | inl less ↦ so_far.with_nul k less
     | inr ge ↦
         let e : i ≡ k = omega (arith, ge, lt) in
-        subst (λ j. IsClosed number bytes (o + 8 * j) × IsClosed number bytes (t + 8 * j)) e shut
+        subst (λ j. HasNul number bytes (o + 8 * j) × HasNul number bytes (t + 8 * j)) e shut
   ];
   each = λ k lt. elim (cases_lt k i) [
     | inl less ↦ so_far.each k less
@@ -89,16 +89,18 @@ one_sound number bytes o t i so_far shut sound rises = record {
   ];
 }
 
-pub text_at : (number : ℕ → List ℕ → ℕ) (bytes : List ℕ) (place : ℕ) (span : Span) → span ≡ span_at number bytes place
-    → text_in bytes span ≡ string_at number bytes place
-text_at number bytes place span is = ap (text_in bytes) is ∙ text_is number bytes place
+pub text_at : (number : ℕ → List ℕ → ℕ) (bytes : List ℕ) (offset : ℕ) (span : Span) → span ≡ span_at number bytes offset
+    → text_in bytes span ≡ string_at number bytes offset
+text_at number bytes offset span is = ap (text_in bytes) is
+    ∙ text_is number bytes offset
 
 -- the slice of the file that is a row's string
-pub slice_is : (number : ℕ → List ℕ → ℕ) (bytes : List ℕ) (place : ℕ) (span : Span) (start end : ℕ)
-    → span ≡ span_at number bytes place → start ≡ span.start → end ≡ span.start + span.len
-    → part bytes start end ≡ string_at number bytes place
-slice_is number bytes place span start end is from to =
-    ap (λ a. part bytes a end) from ∙ ap (part bytes span.start) to ∙ ap (text_in bytes) is ∙ text_is number bytes place
+pub slice_is : (number : ℕ → List ℕ → ℕ) (bytes : List ℕ) (offset : ℕ) (span : Span) (start end : ℕ)
+    → span ≡ span_at number bytes offset → start ≡ span.start → end ≡ span.start + span.len
+    → part bytes start end ≡ string_at number bytes offset
+slice_is number bytes offset span start end is from to =
+    ap (λ a. part bytes a end) from ∙ ap (part bytes span.start) to ∙ ap (text_in bytes) is
+    ∙ text_is number bytes offset
 
 pub first_lies : (number : ℕ → List ℕ → ℕ) (bytes : List ℕ) (table n : ℕ) → TableLies (table_at number bytes table n)
     → 0 < n
@@ -108,6 +110,6 @@ first_lies number bytes table n lies some =
     omega (arith, lies.strings 0 some, ap (λ p. word_at number bytes (p + 4)) e)
 
 -- the byte after a row's string
-pub closed_at : (number : ℕ → List ℕ → ℕ) (bytes : List ℕ) (place : ℕ) (span : Span) → span ≡ span_at number bytes place
-    → slice_index bytes (span.start + span.len) ≡ 0 → IsClosed number bytes place
-closed_at number bytes place span is nul = subst (λ (s : Span). slice_index bytes (s.start + s.len) ≡ 0) is nul
+pub has_nul_at : (number : ℕ → List ℕ → ℕ) (bytes : List ℕ) (offset : ℕ) (span : Span)
+    → span ≡ span_at number bytes offset → slice_index bytes (span.start + span.len) ≡ 0 → HasNul number bytes offset
+has_nul_at number bytes offset span is nul = subst (λ (s : Span). slice_index bytes (s.start + s.len) ≡ 0) is nul

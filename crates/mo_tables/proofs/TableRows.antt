@@ -10,12 +10,12 @@ use Rattle.std.proofs.lemmas.List.{get_or_append_left, get_or_push, length_push,
 use Rattle.std.proofs.lemmas.List.Elements.{All-nil, All-push}
 use Rattle.mo_tables.specs.declared.rows.Row.{Row}
 use Rattle.mo_image.specs.Tables.{word_at, string_at}
-use Rattle.mo_tables.specs.MoTables.{table_at, before_nul, IsClosed, StringLies, TableLies, AllClosed, KeysRise}
+use Rattle.mo_tables.specs.MoTables.{table_at, before_nul, HasNul, StringLies, TableLies, AllHaveNul, KeysRise}
 use Rattle.mo_tables.specs.MoTables.{IsOriginalText, IsTranslationText, HasLawfulForms}
 use Rattle.mo_tables.specs.MoTables.{AreOriginalTexts, AreTranslationTexts, HaveLawfulForms}
 use Rattle.mo_tables.specs.Rows.{listed, rows, row_at, span_at, text_in, RowLies, HasTexts, HasForms}
 use Rattle.mo_tables.specs.Claims.{key_from, claim_at, claims_to, original_of, nowhere, ClaimHolds, ClaimLies}
-use Rattle.mo_tables.proofs.KeyOrder.{closed_key}
+use Rattle.mo_tables.proofs.KeyOrder.{key_with_nul}
 
 -- ---- the first elements of a sequence
 
@@ -44,10 +44,10 @@ each_of P f n all i lt = subst P (listed_at f n i (f i) lt) (all i (f i) (omega 
 -- ---- the strings
 
 module _ (number : ℕ → List ℕ → ℕ) (bytes : List ℕ) where
-  pub text_is : (place : ℕ) → text_in bytes (span_at number bytes place) ≡ string_at number bytes place
-  text_is place =
-      let start = word_at number bytes (place + 4) in
-      let n : (start + word_at number bytes place) - start ≡ word_at number bytes place = omega arith in
+  pub text_is : (offset : ℕ) → text_in bytes (span_at number bytes offset) ≡ string_at number bytes offset
+  text_is offset =
+      let start = word_at number bytes (offset + 4) in
+      let n : (start + word_at number bytes offset) - start ≡ word_at number bytes offset = omega arith in
       ap (λ k. take k (drop start bytes)) n
 
   abbrev row_of : ℕ → ℕ → ℕ → Row
@@ -92,44 +92,44 @@ module _ (number : ℕ → List ℕ → ℕ) (bytes : List ℕ) where
 
   -- ---- the keys
 
-  key_is : (place : ℕ) → StringLies number bytes place → IsClosed number bytes place
-      → key_from bytes (word_at number bytes (place + 4)) ≡ before_nul (string_at number bytes place)
-  key_is place lies closed =
-      let start = word_at number bytes (place + 4) in
-      closed_key (drop start bytes) (word_at number bytes place) (omega (arith, lies, length-drop start bytes))
-      (get_or-drop start bytes (word_at number bytes place) 0 ∙ closed)
+  key_is : (offset : ℕ) → StringLies number bytes offset → HasNul number bytes offset
+      → key_from bytes (word_at number bytes (offset + 4)) ≡ before_nul (string_at number bytes offset)
+  key_is offset lies with_nul =
+      let start = word_at number bytes (offset + 4) in
+      key_with_nul (drop start bytes) (word_at number bytes offset) (omega (arith, lies, length-drop start bytes))
+      (get_or-drop start bytes (word_at number bytes offset) 0 ∙ with_nul)
 
   start_is : (o t n i : ℕ) → i < n → (original_of (rows number bytes o t n) i).start
       ≡ word_at number bytes (o + 8 * i + 4)
   start_is o t n i lt = ap (λ (r : Row). r.original.start) (listed_at (row_of o t) n i nowhere lt)
 
-  claim_is : (o t n : ℕ) → TableLies (table_at number bytes o n) → AllClosed (table_at number bytes o n) → (i : ℕ)
+  claim_is : (o t n : ℕ) → TableLies (table_at number bytes o n) → AllHaveNul (table_at number bytes o n) → (i : ℕ)
       → i + 1 < n
       → slice_cmp nat_cmp (key_from bytes (original_of (rows number bytes o t n) i).start)
       (key_from bytes (original_of (rows number bytes o t n) (i + 1)).start)
       ≡ slice_cmp nat_cmp (before_nul (string_at number bytes (o + 8 * i)))
       (before_nul (string_at number bytes (o + 8 * (i + 1))))
-  claim_is o t n lies closed i lt =
+  claim_is o t n lies with_nul i lt =
       let less : i < n = omega (arith, lt) in
       let a = ap (key_from bytes) (start_is o t n i less) ∙ key_is (o + 8 * i) (lies.strings i less)
-      (closed.each i less) in
+      (with_nul.each i less) in
       let b = ap (key_from bytes) (start_is o t n (i + 1) lt) ∙ key_is (o + 8 * (i + 1)) (lies.strings (i + 1) lt)
-      (closed.each (i + 1) lt) in
+      (with_nul.each (i + 1) lt) in
       ap (λ k. slice_cmp nat_cmp k (key_from bytes (original_of (rows number bytes o t n) (i + 1)).start)) a
       ∙ ap (slice_cmp nat_cmp (before_nul (string_at number bytes (o + 8 * i)))) b
 
-  pub claims_of_rows : (o t n : ℕ) → TableLies (table_at number bytes o n) → AllClosed (table_at number bytes o n)
+  pub claims_of_rows : (o t n : ℕ) → TableLies (table_at number bytes o n) → AllHaveNul (table_at number bytes o n)
       → All (ClaimHolds bytes) (claims_to (rows number bytes o t n) (length (rows number bytes o t n) - 1))
       ↔ KeysRise (table_at number bytes o n)
-  claims_of_rows o t n lies closed =
+  claims_of_rows o t n lies with_nul =
       let rs : List Row = rows number bytes o t n in
       let long : length rs ≡ n = length-listed (row_of o t) n in (
         λ all. record {
-          each = λ i lt. sym (claim_is o t n lies closed i lt)
+          each = λ i lt. sym (claim_is o t n lies with_nul i lt)
               ∙ each_of (ClaimHolds bytes) (claim_at rs) (length rs - 1) all i (omega (arith, lt, long));
         },
         λ rise. all_of (ClaimHolds bytes) (claim_at rs) (length rs - 1)
-            (λ i lt. claim_is o t n lies closed i (omega (arith, lt, long)) ∙ rise.each i (omega (arith, lt, long))),
+            (λ i lt. claim_is o t n lies with_nul i (omega (arith, lt, long)) ∙ rise.each i (omega (arith, lt, long))),
       )
 
   pub claims_lie : (o t n : ℕ) → TableLies (table_at number bytes o n)

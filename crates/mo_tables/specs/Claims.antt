@@ -11,9 +11,9 @@ use Rattle.mo_tables.specs.declared.rows.Span.{Span}
 use Rattle.mo_tables.specs.declared.claims.Claim.{Claim}
 use Rattle.mo_tables.specs.declared.claims.Alike.{Alike}
 
--- the key that begins at this place and ends before the first NUL
+-- the key that begins at this offset and ends before the first NUL
 abbrev pub key_from : List ℕ → ℕ → List ℕ
-key_from bytes place = before_nul (drop place bytes)
+key_from bytes offset = before_nul (drop offset bytes)
 
 -- the claim holds: the key of `lesser` is below that of `greater`, byte by byte
 abbrev pub ClaimHolds : List ℕ → Claim → Type 0

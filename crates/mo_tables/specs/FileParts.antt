@@ -34,20 +34,20 @@ pub record Ends (bytes : List ℕ) (byte start end : ℕ) (gap : Gap) : Type 0 w
   pub found : gap.to < end → slice_index bytes gap.to ≡ byte
 
 -- both parts are gaps
-pub record AreGaps (bytes : List ℕ) (byte : ℕ) (places : Twice) : Type 0 where
-  pub first : IsGap bytes byte places.first
-  pub second : IsGap bytes byte places.second
+pub record AreGaps (bytes : List ℕ) (byte : ℕ) (offsets : Twice) : Type 0 where
+  pub first : IsGap bytes byte offsets.first
+  pub second : IsGap bytes byte offsets.second
 
 -- the two gaps end at the first two occurrences of the byte in this part
-pub record Counts (bytes : List ℕ) (byte start end : ℕ) (places : Twice) : Type 0 where
-  pub first : Ends bytes byte start end places.first
-  pub second : places.first.to < end → Ends bytes byte (places.first.to + 1) end places.second
+pub record Counts (bytes : List ℕ) (byte start end : ℕ) (offsets : Twice) : Type 0 where
+  pub first : Ends bytes byte start end offsets.first
+  pub second : offsets.first.to < end → Ends bytes byte (offsets.first.to + 1) end offsets.second
 
 -- what is known of byte 4 and NUL is true of these bytes
 pub record KnowsSeparators (bytes : List ℕ) (known : Separators) : Type 0 where
   pub none : IsGap bytes 4 known.none
   pub key : IsGap bytes 0 known.key
-  pub places : AreGaps bytes 4 known.places
+  pub offsets : AreGaps bytes 4 known.offsets
 
 -- the key holds byte 4 at most once
 abbrev pub HasFewSeparators : List ℕ → Type 0

@@ -20,7 +20,7 @@ pub record Table : Type 0 where
   pub start : ℕ
   pub count : ℕ
 
--- the table of n rows that begins at this place
+-- the table of n rows that begins at this offset
 abbrev pub table_at : (ℕ → List ℕ → ℕ) → List ℕ → ℕ → ℕ → Table
 table_at number bytes start n = record { number = number; bytes = bytes; start = start; count = n }
 
@@ -40,11 +40,11 @@ strings_in table = strings table.number table.bytes table.start table.count
 
 -- the string of this row and one more byte after it lie in the file
 abbrev pub StringLies : (ℕ → List ℕ → ℕ) → List ℕ → ℕ → Type 0
-StringLies number bytes place = word_at number bytes (place + 4) + word_at number bytes place < length bytes
+StringLies number bytes offset = word_at number bytes (offset + 4) + word_at number bytes offset < length bytes
 
 -- the string of this row is followed by a NUL
-abbrev pub IsClosed : (ℕ → List ℕ → ℕ) → List ℕ → ℕ → Type 0
-IsClosed number bytes place = slice_index bytes (word_at number bytes (place + 4) + word_at number bytes place) ≡ 0
+abbrev pub HasNul : (ℕ → List ℕ → ℕ) → List ℕ → ℕ → Type 0
+HasNul number bytes offset = slice_index bytes (word_at number bytes (offset + 4) + word_at number bytes offset) ≡ 0
 
 -- what precedes the first NUL: the key of an original, or the first form of a translation
 abbrev pub before_nul : List ℕ → List ℕ
@@ -76,8 +76,8 @@ pub record TableLies (table : Table) : Type 0 where
   pub strings : (i : ℕ) → i < table.count → StringLies table.number table.bytes (row table i)
 
 -- every string is followed by a NUL
-pub record AllClosed (table : Table) : Type 0 where
-  pub each : (i : ℕ) → i < table.count → IsClosed table.number table.bytes (row table i)
+pub record AllHaveNul (table : Table) : Type 0 where
+  pub each : (i : ℕ) → i < table.count → HasNul table.number table.bytes (row table i)
 
 -- every string is a lawful original
 pub record AreOriginalTexts (table : Table) : Type 0 where
@@ -104,10 +104,10 @@ pub record HaveLawfulHeaders (originals translations : Table) : Type 0 where
 pub record Fits (originals translations : Table) : Type 0 where
   pub short : length (file originals.count (strings_in originals) (strings_in translations)) ≤ most_file
 
--- the strings of both tables are closed and pass all their tests
+-- a NUL ends each string of both tables, and they pass all their tests
 pub record AreSound (originals translations : Table) : Type 0 where
-  pub originals_closed : AllClosed originals
-  pub translations_closed : AllClosed translations
+  pub originals_have_nul : AllHaveNul originals
+  pub translations_have_nul : AllHaveNul translations
   pub original_texts : AreOriginalTexts originals
   pub translation_texts : AreTranslationTexts translations
   pub forms : HaveLawfulForms originals translations

@@ -7,11 +7,11 @@ use Rattle.mo_tables.specs.FileParts.{part}
 use Rattle.mo_tables.specs.declared.rows.Span.{Span}
 use Rattle.mo_tables.specs.declared.rows.Row.{Row}
 
--- the offset and the length that the row at this place holds
+-- the offset and the length that the row at this offset holds
 abbrev pub span_at : (ℕ → List ℕ → ℕ) → List ℕ → ℕ → Span
-span_at number bytes place = record { start = word_at number bytes (place + 4); len = word_at number bytes place }
+span_at number bytes offset = record { start = word_at number bytes (offset + 4); len = word_at number bytes offset }
 
--- the row at these places of the two tables
+-- the row at these offsets of the two tables
 abbrev pub row_at : (ℕ → List ℕ → ℕ) → List ℕ → ℕ → ℕ → Row
 row_at number bytes o t = record { original = span_at number bytes o; translation = span_at number bytes t }
 
@@ -20,7 +20,7 @@ abbrev pub listed : {X : Type 0} → (ℕ → X) → ℕ → List X
 listed f zero = []
 listed f (suc n) = listed f n ++ f n ∷ []
 
--- the n rows from these places on
+-- the n rows from these offsets on
 abbrev pub rows : (ℕ → List ℕ → ℕ) → List ℕ → ℕ → ℕ → ℕ → List Row
 rows number bytes o t n = listed (λ i. row_at number bytes (o + 8 * i) (t + 8 * i)) n
 

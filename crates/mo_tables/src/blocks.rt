@@ -11,10 +11,10 @@ use mo_image::MAX_LEN;
 use std::alloc::{AllocError, Global};
 use std::hash::{FoldHasher, Hasher};
 
-/// How far behind the place of its least hash a block ends. No block but the last is shorter.
+/// How far behind the offset of its least hash a block ends. No block but the last is shorter.
 const WINDOW: usize = 256;
 
-/// An odd number with its bits well mixed, by which bytes are hashed. The hash at a place is made of the 64 bytes
+/// An odd number with its bits well mixed, by which bytes are hashed. The hash at a offset is made of the 64 bytes
 /// before it.
 const MULTIPLIER: u64 = 0x9e37_79b9_7f4a_7c15;
 
@@ -25,7 +25,7 @@ const SLOTS: usize = 4;
 const TRIES: usize = 16;
 
 /// Cuts a file into blocks that lie end to end. Returns where they begin, and where the last one ends. A block ends
-/// where the least hash in it has stood for `WINDOW` places.
+/// where the least hash in it has stood for `WINDOW` bytes.
 fn cuts(alloc: Global, bytes: &[u8]) -> Result<Vec<u32>, AllocError>
     requires { length bytes.now ≤ most_file }
 {
@@ -33,15 +33,15 @@ fn cuts(alloc: Global, bytes: &[u8]) -> Result<Vec<u32>, AllocError>
     starts.push(0)?;
     let mut hash: u64 = 0;
     let mut least = u64::MAX;
-    let mut places: usize = 0;
+    let mut since: usize = 0;
     for i in 0..bytes.len() {
         let mixed = u64::from(bytes[i]).wrapping_mul(MULTIPLIER);
         hash = hash.wrapping_add(hash).wrapping_add(mixed);
-        places = places.wrapping_add(1);
+        since = since.wrapping_add(1);
         if hash < least {
             least = hash;
-            places = 0;
-        } else if places == WINDOW {
+            since = 0;
+        } else if since == WINDOW {
             starts.push(i as u32)?;
             least = u64::MAX;
         }
@@ -179,12 +179,12 @@ impl Blocks {
         self.starts.is_empty()
     }
 
-    /// Returns the first block that begins at this place or behind it.
-    fn from(&self, place: usize) -> usize
+    /// Returns the first block that begins at this offset or behind it.
+    fn first_at(&self, offset: usize) -> usize
         ensures { result ≤ length self.now.starts.items }
     {
         self.starts
-            .partition_point(|start| (*start as usize) < place)
+            .partition_point(|start| (*start as usize) < offset)
     }
 
     /// Returns the part that the blocks from the i-th on have in common with those from the j-th on, if these begin
@@ -206,16 +206,16 @@ impl Blocks {
         Some(Alike { distance, from, to })
     }
 
-    /// Returns a part behind this place that is repeated `distance` bytes further on: whole blocks that are cut alike
+    /// Returns a part behind this offset that is repeated `distance` bytes further on: whole blocks that are cut alike
     /// in both copies and have the same numbers.
-    pub(crate) fn alike(&self, place: usize, distance: usize) -> Option<Alike>
+    pub(crate) fn alike(&self, offset: usize, distance: usize) -> Option<Alike>
         ensures { (bytes : List ℕ) → AreBlocks bytes self.now
             → IfSome result (λ a. IsAlike bytes a × (a.distance ≡ distance)) }
     {
-        let first = self.from(place);
+        let first = self.first_at(offset);
         for i in first..first + TRIES {
             let start = *self.starts.get(i)? as usize;
-            let j = self.from(start.saturating_add(distance));
+            let j = self.first_at(start.saturating_add(distance));
             if let Some(alike) = self.run(i, j, distance) {
                 return Some(alike);
             }

@@ -138,20 +138,21 @@ impl Alike {
         }
     }
 
-    /// Returns what is known of the bytes at `place` and `distance` bytes further on: `self` if it covers the place at
-    /// this distance, else an empty part.
-    fn around(self, place: usize, distance: usize) -> Alike
+    /// Returns what is known of the bytes at `offset` and `distance` bytes further on: `self` if it covers the
+    /// offset at this distance, else an empty part.
+    fn around(self, offset: usize, distance: usize) -> Alike
         ensures distance { result.distance ≡ distance }
-        ensures around { (result.from ≤ place) × (place ≤ result.to) }
-        ensures known { (bytes : List ℕ) → IsAlike bytes self → place + distance ≤ length bytes → IsAlike bytes result }
+        ensures around { (result.from ≤ offset) × (offset ≤ result.to) }
+        ensures known { (bytes : List ℕ) → IsAlike bytes self → offset + distance ≤ length bytes
+            → IsAlike bytes result }
     {
-        if self.distance == distance && self.from <= place && place <= self.to {
+        if self.distance == distance && self.from <= offset && offset <= self.to {
             return self;
         }
         Alike {
             distance,
-            from: place,
-            to: place,
+            from: offset,
+            to: offset,
         }
     }
 
@@ -275,27 +276,27 @@ impl Alike {
         known
     }
 
-    /// Returns the part that shows where the key at `place` and the key `distance` bytes further on differ or both end.
-    /// Bytes that the period or blocks answer for are not compared again.
+    /// Returns the part that shows where the key at `offset` and the key `distance` bytes further on differ or both
+    /// end. Bytes that the period or blocks answer for are not compared again.
     fn compared(
         self,
         bytes: &[u8],
         blocks: &Blocks,
         period: Alike,
-        place: usize,
+        offset: usize,
         distance: usize,
         spent: &mut usize,
     ) -> Alike
         requires alike { IsAlike bytes.now self }
         requires blocks { AreBlocks bytes.now blocks.now }
         requires period { IsAlike bytes.now period }
-        requires within { place + distance ≤ length bytes.now }
+        requires within { offset + distance ≤ length bytes.now }
         ensures alike { IsAlike bytes.now result }
         ensures distance { result.distance ≡ distance }
-        ensures around { (result.from ≤ place) × (place ≤ result.to) }
+        ensures around { (result.from ≤ offset) × (offset ≤ result.to) }
         ensures ends { EndsThere bytes.now result }
     {
-        let mut known = self.around(place, distance);
+        let mut known = self.around(offset, distance);
         if let Some(other) = period.at_multiple(distance) {
             known = known.joined(bytes, other, spent);
         }
@@ -308,33 +309,33 @@ impl Alike {
         known.grown(bytes, bytes.len(), spent)
     }
 
-    /// Returns the period to go on with, after the keys at `place` have been compared.
+    /// Returns the period to go on with, after the keys at `offset` have been compared.
     fn after(
         self,
         bytes: &[u8],
         blocks: &Blocks,
         compared: Alike,
-        place: usize,
+        offset: usize,
         spent: &mut usize,
     ) -> Alike
         requires alike { IsAlike bytes.now self }
         requires blocks { AreBlocks bytes.now blocks.now }
         requires compared { IsAlike bytes.now compared }
-        requires place { place ≤ compared.to }
+        requires offset { offset ≤ compared.to }
         ensures { IsAlike bytes.now result }
     {
         let distance = compared.distance;
-        if distance == 0 || compared.to - place < distance {
+        if distance == 0 || compared.to - offset < distance {
             return self;
         }
-        if self.to <= place || compared.to <= self.from {
+        if self.to <= offset || compared.to <= self.from {
             return compared;
         }
         let period = greatest_common_divisor(self.distance, distance);
-        if period == self.distance && self.from <= place {
+        if period == self.distance && self.from <= offset {
             return self;
         }
-        let whole = Alike::new().compared(bytes, blocks, self, place, period, spent);
+        let whole = Alike::new().compared(bytes, blocks, self, offset, period, spent);
         if whole.to + period < compared.to + distance {
             return compared;
         }
@@ -348,17 +349,17 @@ impl Alike {
         blocks: &Blocks,
         compared: Alike,
         nearer: Alike,
-        place: usize,
+        offset: usize,
         spent: &mut usize,
     ) -> Alike
         requires alike { IsAlike bytes.now self }
         requires blocks { AreBlocks bytes.now blocks.now }
         requires compared { IsAlike bytes.now compared }
         requires nearer { IsAlike bytes.now nearer }
-        requires place { place ≤ compared.to }
+        requires offset { offset ≤ compared.to }
         ensures { IsAlike bytes.now result }
     {
-        let period = self.after(bytes, blocks, compared, place, spent);
+        let period = self.after(bytes, blocks, compared, offset, spent);
         match compared.repeated(nearer) {
             Some(repeated) => period.after(bytes, blocks, repeated, repeated.from, spent),
             None => period,
@@ -366,11 +367,11 @@ impl Alike {
     }
 }
 
-/// Returns the byte at `place`, or 0 past the end.
-fn byte_at(bytes: &[u8], place: usize) -> u8
-    ensures { result ≡ slice_index bytes.now place }
+/// Returns the byte at `offset`, or 0 past the end.
+fn byte_at(bytes: &[u8], offset: usize) -> u8
+    ensures { result ≡ slice_index bytes.now offset }
 {
-    match bytes.get(place) {
+    match bytes.get(offset) {
         Some(byte) => *byte,
         None => 0,
     }
@@ -391,15 +392,15 @@ pub(crate) fn all_hold(alloc: Global, bytes: &[u8], claims: &[Claim]) -> Result<
         blocks = blocks.cut_if(alloc, bytes, COMPARED * bytes.len() < spent)?;
         let lesser = claim.lesser.start();
         let greater = claim.greater.start();
-        let place = lesser.min(greater);
+        let offset = lesser.min(greater);
         let distance = lesser.abs_diff(greater);
         let nearer = alike;
-        alike = alike.compared(bytes, &blocks, period, place, distance, &mut spent);
-        let shared = alike.to - place;
+        alike = alike.compared(bytes, &blocks, period, offset, distance, &mut spent);
+        let shared = alike.to - offset;
         if byte_at(bytes, greater + shared) <= byte_at(bytes, lesser + shared) {
             return Ok(false);
         }
-        period = period.learnt(bytes, &blocks, alike, nearer, place, &mut spent);
+        period = period.learnt(bytes, &blocks, alike, nearer, offset, &mut spent);
     }
     Ok(true)
 }

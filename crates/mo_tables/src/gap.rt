@@ -20,7 +20,7 @@ impl Gap {
         Gap { from: 0, to: 0 }
     }
 
-    /// The end of the gap: the first place of the byte from the start of the last search on, if that is before the
+    /// The end of the gap: the first offset of the byte from the start of the last search on, if that is before the
     /// search's end.
     pub(crate) fn to(self) -> usize
         ensures { result ≡ self.to }
@@ -36,18 +36,18 @@ impl Gap {
         self.from <= start && end <= self.to
     }
 
-    /// Returns `self` if it touches this place, else an empty gap there.
-    fn around(self, place: usize) -> Gap
-        ensures around { (result.from ≤ place) × (place ≤ result.to) }
-        ensures known { (bytes : List ℕ) (byte : ℕ) → IsGap bytes byte self → place ≤ length bytes
+    /// Returns `self` if it touches this offset, else an empty gap there.
+    fn around(self, offset: usize) -> Gap
+        ensures around { (result.from ≤ offset) × (offset ≤ result.to) }
+        ensures known { (bytes : List ℕ) (byte : ℕ) → IsGap bytes byte self → offset ≤ length bytes
             → IsGap bytes byte result }
     {
-        if self.from <= place && place <= self.to {
+        if self.from <= offset && offset <= self.to {
             return self;
         }
         Gap {
-            from: place,
-            to: place,
+            from: offset,
+            to: offset,
         }
     }
 

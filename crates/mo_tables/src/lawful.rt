@@ -1,7 +1,7 @@
 //! The tests of two tables by a list of their rows, which can be sorted: for strings that may overlap.
 ghost use Rattle.std.specs.Prelude.{◌↔◌, ◌≤◌, length, IsTrue, IfOk};
 ghost use Rattle.mo_image.specs.MoFile.{most_file};
-ghost use Rattle.mo_tables.specs.MoTables.{table_at, TableLies, AllClosed, AreOriginalTexts, AreTranslationTexts};
+ghost use Rattle.mo_tables.specs.MoTables.{table_at, TableLies, AllHaveNul, AreOriginalTexts, AreTranslationTexts};
 ghost use Rattle.mo_tables.specs.MoTables.{HaveLawfulForms, KeysRise};
 
 use crate::claims::{all_hold, in_order, read_claims};
@@ -60,7 +60,7 @@ pub fn overlapping_keys_rise<T: ByteOrder>(
     requires short { length bytes.now ≤ most_file }
     requires originals { TableLies (table_at T.number_of bytes.now originals n) }
     requires translations { TableLies (table_at T.number_of bytes.now translations n) }
-    requires closed { AllClosed (table_at T.number_of bytes.now originals n) }
+    requires with_nul { AllHaveNul (table_at T.number_of bytes.now originals n) }
     ensures { IfOk result (λ yes. IsTrue yes ↔ KeysRise (table_at T.number_of bytes.now originals n)) }
 {
     let rows = read_rows::<T>(alloc, bytes, originals, translations, n)?;

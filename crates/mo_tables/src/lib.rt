@@ -17,4 +17,4 @@ mod texts;
 pub use lawful::{have_lawful_forms, have_lawful_texts, overlapping_keys_rise};
 pub use rows::{string, word};
 pub use sound::are_sound;
-pub use tables::{all_closed, fits, have_lawful_headers, keys_rise, table_lies};
+pub use tables::{all_have_nul, fits, have_lawful_headers, keys_rise, table_lies};

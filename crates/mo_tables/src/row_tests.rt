@@ -33,7 +33,7 @@ fn by_translations(mut rows: Vec<Row>, sorts: bool) -> Vec<Row>
 }
 
 /// Sorts the strings by where they begin, if `sorts` is set.
-fn by_places(mut spans: Vec<Span>, sorts: bool) -> Vec<Span>
+fn by_offsets(mut spans: Vec<Span>, sorts: bool) -> Vec<Span>
     ensures { IsPermutation spans.items result.items }
 {
     if sorts {
@@ -87,6 +87,6 @@ pub(crate) fn have_forms(
     let Some(spans) = without_plural(alloc, bytes, &rows)? else {
         return Ok(false);
     };
-    let spans = by_places(spans, sorts);
+    let spans = by_offsets(spans, sorts);
     Ok(have_one_form(bytes, &spans))
 }

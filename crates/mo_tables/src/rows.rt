@@ -2,7 +2,7 @@
 ghost use Rattle.std.specs.Prelude.{◌≡◌, ◌↔◌, ◌+◌, ◌^◌, ◌<◌, ◌≤◌, length, IsTrue, IfOk};
 ghost use Rattle.mo_tables.specs.Rows.{rows, span_at};
 ghost use Rattle.mo_image.specs.Tables.{word_at, string_at};
-ghost use Rattle.mo_tables.specs.MoTables.{table_at, StringLies, IsClosed, TableLies};
+ghost use Rattle.mo_tables.specs.MoTables.{table_at, StringLies, HasNul, TableLies};
 
 use byteorder::ByteOrder;
 use mo_image::ROW_LEN;
@@ -10,40 +10,40 @@ use std::alloc::{AllocError, Global};
 
 /// Reads a word of 32 bits.
 #[inline]
-pub fn word<T: ByteOrder>(bytes: &[u8], place: usize) -> usize
-    requires { place + 4 ≤ length bytes.now }
-    ensures value { result ≡ word_at T.number_of bytes.now place }
+pub fn word<T: ByteOrder>(bytes: &[u8], offset: usize) -> usize
+    requires { offset + 4 ≤ length bytes.now }
+    ensures value { result ≡ word_at T.number_of bytes.now offset }
     ensures small { result < 2 ^ 32 }
 {
-    T::read_u32(&bytes[place..]) as usize
+    T::read_u32(&bytes[offset..]) as usize
 }
 
-/// Whether the string of the row at this place, and one more byte after it, lie in the file.
-pub(crate) fn string_lies<T: ByteOrder>(bytes: &[u8], place: usize) -> bool
-    requires { place + 8 ≤ length bytes.now }
-    ensures { IsTrue result ↔ StringLies T.number_of bytes.now place }
+/// Whether the string of the row at this offset, and one more byte after it, lie in the file.
+pub(crate) fn string_lies<T: ByteOrder>(bytes: &[u8], offset: usize) -> bool
+    requires { offset + 8 ≤ length bytes.now }
+    ensures { IsTrue result ↔ StringLies T.number_of bytes.now offset }
 {
-    word::<T>(bytes, place + 4) + word::<T>(bytes, place) < bytes.len()
+    word::<T>(bytes, offset + 4) + word::<T>(bytes, offset) < bytes.len()
 }
 
-/// Whether the string of the row at this place is followed by a NUL.
-pub(crate) fn is_closed<T: ByteOrder>(bytes: &[u8], place: usize) -> bool
-    requires row { place + 8 ≤ length bytes.now }
-    requires lies { StringLies T.number_of bytes.now place }
-    ensures { IsTrue result ↔ IsClosed T.number_of bytes.now place }
+/// Whether the string of the row at this offset is followed by a NUL.
+pub(crate) fn has_nul<T: ByteOrder>(bytes: &[u8], offset: usize) -> bool
+    requires row { offset + 8 ≤ length bytes.now }
+    requires lies { StringLies T.number_of bytes.now offset }
+    ensures { IsTrue result ↔ HasNul T.number_of bytes.now offset }
 {
-    bytes[word::<T>(bytes, place + 4) + word::<T>(bytes, place)] == 0
+    bytes[word::<T>(bytes, offset + 4) + word::<T>(bytes, offset)] == 0
 }
 
-/// Returns the string of the row at this place.
+/// Returns the string of the row at this offset.
 #[inline]
-pub fn string<T: ByteOrder>(bytes: &[u8], place: usize) -> &[u8]
-    requires row { place + 8 ≤ length bytes.now }
-    requires lies { StringLies T.number_of bytes.now place }
-    ensures { result.now ≡ string_at T.number_of bytes.now place }
+pub fn string<T: ByteOrder>(bytes: &[u8], offset: usize) -> &[u8]
+    requires row { offset + 8 ≤ length bytes.now }
+    requires lies { StringLies T.number_of bytes.now offset }
+    ensures { result.now ≡ string_at T.number_of bytes.now offset }
 {
-    let len = word::<T>(bytes, place);
-    let start = word::<T>(bytes, place + 4);
+    let len = word::<T>(bytes, offset);
+    let start = word::<T>(bytes, offset + 4);
     &bytes[start..start + len]
 }
 
@@ -79,14 +79,14 @@ pub(crate) struct Row {
     pub(crate) translation: Span,
 }
 
-/// Reads the row at this place: where its string lies.
-pub(crate) fn read_span<T: ByteOrder>(bytes: &[u8], place: usize) -> Span
-    requires { place + 8 ≤ length bytes.now }
-    ensures { result ≡ span_at T.number_of bytes.now place }
+/// Reads the row at this offset: where its string lies.
+pub(crate) fn read_span<T: ByteOrder>(bytes: &[u8], offset: usize) -> Span
+    requires { offset + 8 ≤ length bytes.now }
+    ensures { result ≡ span_at T.number_of bytes.now offset }
 {
     Span {
-        start: T::read_u32(&bytes[place + 4..]),
-        len: T::read_u32(&bytes[place..]),
+        start: T::read_u32(&bytes[offset + 4..]),
+        len: T::read_u32(&bytes[offset..]),
     }
 }
 

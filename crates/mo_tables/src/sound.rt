@@ -31,8 +31,8 @@ fn lawful_key<'a>(original: &'a [u8], translation: &[u8]) -> Option<&'a [u8]>
     }
 }
 
-/// Whether the strings of two tables are closed and pass all their tests. `false` says nothing: the strings may be in
-/// an order that a single pass can't follow.
+/// Whether a NUL ends each string of two tables and they pass all their tests. `false` says nothing: the strings may
+/// be in an order that a single pass can't follow.
 pub fn are_sound<T: ByteOrder>(
     bytes: &[u8],
     originals: usize,

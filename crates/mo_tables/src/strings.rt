@@ -63,7 +63,7 @@ pub(crate) struct Separators {
     /// A part that holds no NUL; its end bounds the last key.
     key: Gap,
     /// The first two bytes 4 of the last key that has one.
-    places: Twice,
+    offsets: Twice,
 }
 
 impl Separators {
@@ -74,7 +74,7 @@ impl Separators {
         Separators {
             none: Gap::new(),
             key: Gap::new(),
-            places: Twice::new(),
+            offsets: Twice::new(),
         }
     }
 
@@ -111,9 +111,9 @@ impl Separators {
         }
         let key = self.key.searched(bytes, 0, start, end);
         let key_end = end.min(key.to());
-        let places = self.places.searched(bytes, 4, start, key_end);
-        if places.count(key_end) < 2 {
-            Some(Separators { none, key, places })
+        let offsets = self.offsets.searched(bytes, 4, start, key_end);
+        if offsets.count(key_end) < 2 {
+            Some(Separators { none, key, offsets })
         } else {
             None
         }
@@ -148,11 +148,11 @@ pub(crate) fn without_plural(
         × (spans.items ≡ filter_map (alone bytes.now) rows.now))) }
 {
     let mut singular = Vec::new(alloc);
-    let mut places = Twice::new();
+    let mut offsets = Twice::new();
     'rows: for row in rows {
         let end = row.original.end();
-        places = places.searched(bytes, 0, row.original.start(), end);
-        let count = places.count(end);
+        offsets = offsets.searched(bytes, 0, row.original.start(), end);
+        let count = offsets.count(end);
         if count == 2 {
             return Ok(None);
         }

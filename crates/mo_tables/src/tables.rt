@@ -2,10 +2,10 @@
 ghost use Rattle.std.specs.Prelude.{◌≡◌, ◌↔◌, ◌^◌, ◌<◌, ◌≤◌, ◌*◌, length, IsTrue};
 ghost use Rattle.mo_image.specs.MoFile.{most_file, pool};
 ghost use Rattle.mo_image.specs.Tables.{strings};
-ghost use Rattle.mo_tables.specs.MoTables.{table_at, TableLies, AllClosed, AreTranslationTexts, KeysRise};
+ghost use Rattle.mo_tables.specs.MoTables.{table_at, TableLies, AllHaveNul, AreTranslationTexts, KeysRise};
 ghost use Rattle.mo_tables.specs.MoTables.{HaveLawfulHeaders, Fits};
 
-use crate::rows::{is_closed, string, string_lies, word};
+use crate::rows::{has_nul, string, string_lies, word};
 use crate::texts::{before_nul, has_lawful_header, is_below};
 use byteorder::ByteOrder;
 use mo_image::{HEADER_LEN, MAX_LEN, ROW_LEN};
@@ -31,12 +31,12 @@ pub fn table_lies<T: ByteOrder>(bytes: &[u8], table: usize, n: usize) -> bool
 }
 
 /// Whether every string of a table is followed by a NUL.
-pub fn all_closed<T: ByteOrder>(bytes: &[u8], table: usize, n: usize) -> bool
+pub fn all_have_nul<T: ByteOrder>(bytes: &[u8], table: usize, n: usize) -> bool
     requires { TableLies (table_at T.number_of bytes.now table n) }
-    ensures { IsTrue result ↔ AllClosed (table_at T.number_of bytes.now table n) }
+    ensures { IsTrue result ↔ AllHaveNul (table_at T.number_of bytes.now table n) }
 {
     for i in 0..n {
-        if !is_closed::<T>(bytes, table + ROW_LEN * i) {
+        if !has_nul::<T>(bytes, table + ROW_LEN * i) {
             return false;
         }
     }

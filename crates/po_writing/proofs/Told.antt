@@ -7,8 +7,8 @@ use Rattle.std.specs.Str.{bytes_eq}
 use Rattle.std.proofs.lemmas.List.Sums.{sum_by-cons}
 use Rattle.message.specs.Message.{Entry, LacksByte, IsText, IsKeyText, IsLawfulEntry}
 use Rattle.mo_image.specs.Map.{IsLawful}
-use Rattle.mo_image.specs.MoFile.{closed, pool, entry_size}
-use Rattle.mo_image.proofs.MoLengths.{closed_joined}
+use Rattle.mo_image.specs.MoFile.{with_nul, pool, entry_size}
+use Rattle.mo_image.proofs.MoLengths.{joined_with_nul}
 use Rattle.mo_image.proofs.FileSizes.{file_size}
 use Rattle.mo_image.proofs.EntryParts.{some_form}
 use Rattle.po_text.specs.Spelling.{lexemes}
@@ -79,7 +79,7 @@ pool_long [] = omega arith
 pool_long (form ∷ more) = omega (
   arith,
   pool_long more,
-  length-append (closed form) (pool more),
+  length-append (with_nul form) (pool more),
   length-append form (0 ∷ []),
 )
 
@@ -87,7 +87,7 @@ size_long : (e : Entry) → IsLawfulEntry e → length e.forms ≤ entry_size e
 size_long e h = omega (
   arith,
   pool_long e.forms,
-  ap length (closed_joined e.forms (some_form e.plural e.forms h.counted)),
+  ap length (joined_with_nul e.forms (some_form e.plural e.forms h.counted)),
 )
 
 few_in : (m : List Entry) → AllByRecursion IsLawfulEntry m → sum_by entry_size m ≤ 1000000000

@@ -39,8 +39,8 @@ fn has_texts(alloc: Global, set: &CatalogueSet) -> bool {
     );
     list.gettext("hi") == "hallo"
         && list.pgettext("menu", "open") == "otworz"
-        && again.translated_closed(None, b"file", None) == Some(b"plik\0")
-        && again.translated_closed(None, b"\xff", None).is_none()
+        && again.translated_with_nul(None, b"file", None) == Some(b"plik\0")
+        && again.translated_with_nul(None, b"\xff", None).is_none()
         && looks_up(
             alloc,
             set,

@@ -3,7 +3,7 @@ use Rattle.mo_image.specs.Entry.{original}
 use Rattle.mo_image.specs.MoFile.{pool, entry_size}
 use Rattle.catalogue.specs.Messages.{message_entry}
 use Rattle.catalogue.specs.Sizes.{capped}
-use Rattle.mo_image.proofs.MoLengths.{length-closed}
+use Rattle.mo_image.proofs.MoLengths.{length-with_nul}
 use Rattle.catalogue.proofs.Accepting.{translation_size, sums_capped}
 use Rattle.catalogue.proofs.sizes.message_len.Goals as goal
 
@@ -12,6 +12,6 @@ returns c =
     let e = message_entry c.args.message.now in
     let translation = rw c.deref.ensures.value at c.translation_len.ensures in
     let same : entry_size e ≡ 16 + (c.key_len.result + c.plural_len.result + 1) + max (length (pool e.forms)) 1 = omega
-    (arith, length-closed (original e), translation_size e, c.key_len.ensures, c.plural_len.ensures) in
+    (arith, length-with_nul (original e), translation_size e, c.key_len.ensures, c.plural_len.ensures) in
     sums_capped _ _ _ _ _ _ _ _ c.saturating_add.ensures c.saturating_add-original.ensures
     (rw translation at c.saturating_add-2.ensures) c.saturating_add-3.ensures ∙ ap capped (sym same)

@@ -23,7 +23,7 @@ returns-then-is_sound-clause-ok g c =
     let bounds = c.if-not-passes_bounds.ensures.0 refl in
     let below : PassesBelow file 6 = past_bounds file c.requires.passed revision bounds in
     let sound = c.if-is_sound.ensures refl in
-    past_size file below (sound.originals_closed, sound.translations_closed)
+    past_size file below (sound.originals_have_nul, sound.translations_have_nul)
     (sound.original_texts, sound.translation_texts) sound.forms sound.rise sound.headers
     (c.passes_size-overlap.ensures.0 c.if-not-overlap.true)
 
@@ -44,9 +44,9 @@ returns-then-not-branch-clause-err g c less =
     let revision : word_at number c.args.bytes.now 4 ≡ 0 = omega arith in
     let bounds = c.if-not-passes_bounds.ensures.0 refl in
     let below : PassesBelow file 6 = past_bounds file c.requires.passed revision bounds in
-    let closed = c.if-not-passes_closing.ensures.0 refl in (
+    let with_nul = c.if-not-passes_closing.ensures.0 refl in (
       λ passes. both_ways _ c.if-not-branch.true (c.in_ok-passes_texts.ensures.1 passes),
-      past_closing file below closed,
+      past_closing file below with_nul,
     )
 
 pub returns-then-not-branch-2-clause-err : goal.returns-then-not-branch-2-clause-err
@@ -56,10 +56,10 @@ returns-then-not-branch-2-clause-err g c less =
     let revision : word_at number c.args.bytes.now 4 ≡ 0 = omega arith in
     let bounds = c.if-not-passes_bounds.ensures.0 refl in
     let below : PassesBelow file 6 = past_bounds file c.requires.passed revision bounds in
-    let closed = c.if-not-passes_closing.ensures.0 refl in
+    let with_nul = c.if-not-passes_closing.ensures.0 refl in
     let texts = c.in_ok-passes_texts.ensures.0 c.if-not-branch.false in (
       λ passes. both_ways _ c.if-not-branch-2.true (c.in_ok-passes_forms.ensures.1 passes),
-      past_texts file below closed texts,
+      past_texts file below with_nul texts,
     )
 
 pub returns-then-not-branch-3-clause-err : goal.returns-then-not-branch-3-clause-err
@@ -69,11 +69,11 @@ returns-then-not-branch-3-clause-err g c less =
     let revision : word_at number c.args.bytes.now 4 ≡ 0 = omega arith in
     let bounds = c.if-not-passes_bounds.ensures.0 refl in
     let below : PassesBelow file 6 = past_bounds file c.requires.passed revision bounds in
-    let closed = c.if-not-passes_closing.ensures.0 refl in
+    let with_nul = c.if-not-passes_closing.ensures.0 refl in
     let texts = c.in_ok-passes_texts.ensures.0 c.if-not-branch.false in
     let forms = c.in_ok-passes_forms.ensures.0 c.if-not-branch-2.false in (
       λ passes. both_ways _ c.if-not-branch-3.true (c.in_ok-passes_order.ensures.1 passes),
-      past_forms file below closed texts forms,
+      past_forms file below with_nul texts forms,
     )
 
 pub returns-then-not-passes_charset-clause-err : goal.returns-then-not-passes_charset-clause-err
@@ -83,12 +83,12 @@ returns-then-not-passes_charset-clause-err g c less =
     let revision : word_at number c.args.bytes.now 4 ≡ 0 = omega arith in
     let bounds = c.if-not-passes_bounds.ensures.0 refl in
     let below : PassesBelow file 6 = past_bounds file c.requires.passed revision bounds in
-    let closed = c.if-not-passes_closing.ensures.0 refl in
+    let with_nul = c.if-not-passes_closing.ensures.0 refl in
     let texts = c.in_ok-passes_texts.ensures.0 c.if-not-branch.false in
     let forms = c.in_ok-passes_forms.ensures.0 c.if-not-branch-2.false in
     let rise = c.in_ok-passes_order.ensures.0 c.if-not-branch-3.false in (
       λ passes. false≢true (c.if-not-passes_charset.ensures.1 passes),
-      past_order file below closed texts forms rise,
+      past_order file below with_nul texts forms rise,
     )
 
 pub returns-then-overlap-clause-err : goal.returns-then-overlap-clause-err
@@ -98,13 +98,13 @@ returns-then-overlap-clause-err g c less =
     let revision : word_at number c.args.bytes.now 4 ≡ 0 = omega arith in
     let bounds = c.if-not-passes_bounds.ensures.0 refl in
     let below : PassesBelow file 6 = past_bounds file c.requires.passed revision bounds in
-    let closed = c.if-not-passes_closing.ensures.0 refl in
+    let with_nul = c.if-not-passes_closing.ensures.0 refl in
     let texts = c.in_ok-passes_texts.ensures.0 c.if-not-branch.false in
     let forms = c.in_ok-passes_forms.ensures.0 c.if-not-branch-2.false in
     let rise = c.in_ok-passes_order.ensures.0 c.if-not-branch-3.false in
     let headers = c.if-not-passes_charset.ensures.0 refl in (
       λ passes. both_ways _ c.if-overlap.true (c.passes_size-overlap.ensures.1 passes),
-      past_charset file below closed texts forms rise headers,
+      past_charset file below with_nul texts forms rise headers,
     )
 
 pub returns-clause-ok : goal.returns-clause-ok
@@ -114,9 +114,9 @@ returns-clause-ok g c =
     let revision : word_at number c.args.bytes.now 4 ≡ 0 = omega arith in
     let bounds = c.if-not-passes_bounds.ensures.0 refl in
     let below : PassesBelow file 6 = past_bounds file c.requires.passed revision bounds in
-    let closed = c.if-not-passes_closing.ensures.0 refl in
+    let with_nul = c.if-not-passes_closing.ensures.0 refl in
     let texts = c.in_ok-passes_texts.ensures.0 c.if-not-branch.false in
     let forms = c.in_ok-passes_forms.ensures.0 c.if-not-branch-2.false in
     let rise = c.in_ok-passes_order.ensures.0 c.if-not-branch-3.false in
     let headers = c.if-not-passes_charset.ensures.0 refl in
-    past_size file below closed texts forms rise headers (c.passes_size-overlap.ensures.0 c.if-overlap.false)
+    past_size file below with_nul texts forms rise headers (c.passes_size-overlap.ensures.0 c.if-overlap.false)

@@ -1,9 +1,9 @@
 use Rattle.std.proofs.Common.{ap, sym, ◌∙◌}
 use Rattle.byte_text.specs.Cut.{offset_of}
-use Rattle.mo_image.specs.MoFile.{closed}
+use Rattle.mo_image.specs.MoFile.{with_nul}
 use Rattle.mo_image.proofs.ImageFacts.{entry_facts}
 use Rattle.mo_image.proofs.Extents.{piece_named, piece_held}
-use Rattle.mo_image.proofs.Closing.{closed_held}
+use Rattle.mo_image.proofs.Closing.{held_with_nul}
 use Rattle.mo_image.proofs.image.entry_of.Goals as goal
 
 pub text_in-requires : goal.text_in-requires
@@ -20,12 +20,12 @@ text_in-requires-2 c =
     piece_held bytes _ c.args.texts.now.translation at.translation
     (entry_facts bytes c.requires.extents.0 c.requires.image at.within).translation
 
-pub closed_in-requires : goal.closed_in-requires
-closed_in-requires c =
+pub text_with_nul_in-requires : goal.text_with_nul_in-requires
+text_with_nul_in-requires c =
     let bytes = c.args.bytes.now in
     let at = c.requires.extents.1 in
     let facts = entry_facts bytes c.requires.extents.0 c.requires.image at.within in
-    closed_held bytes _ c.args.texts.now.translation at.translation facts.translation facts.closed
+    held_with_nul bytes _ c.args.texts.now.translation at.translation facts.translation facts.with_nul
 
 pub new-requires : goal.new-requires
 new-requires c =
@@ -42,7 +42,7 @@ new-requires c =
           (entry_facts bytes c.requires.extents.0 c.requires.image at.within).lawful;
       key_len = at.key_len ∙ ap (offset_of 0)
           (sym (c.text_in.ensures ∙ piece_named bytes _ c.args.texts.now.original at.original));
-      closed = c.closed_in.ensures ∙ ap closed (sym c.text_in-2.ensures);
+      with_nul = c.text_with_nul_in.ensures ∙ ap with_nul (sym c.text_in-2.ensures);
     }
 
 pub returns : goal.returns

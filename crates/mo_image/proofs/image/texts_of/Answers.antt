@@ -51,12 +51,12 @@ returns-clause-texts c =
     let n = length (listing bytes) in
     let i = c.args.i in
     let extent = c.extent_at-2 in
-    let place : 28 + 8 * i + 8 * c.count_of.result ≡ 28 + 8 * n + 8 * i = omega (arith, c.count_of.ensures) in
+    let offset : 28 + 8 * i + 8 * c.count_of.result ≡ 28 + 8 * n + 8 * i = omega (arith, c.count_of.ensures) in
     record {
       within = c.requires.within;
       original = c.extent_at.ensures;
-      translation = subst (λ (p : ℕ). IsNamedAt bytes p extent.result) place extent.ensures;
-      key_len = c.key_len.ensures.place ∙ ap (offset_of 0) c.text.ensures;
+      translation = subst (λ (p : ℕ). IsNamedAt bytes p extent.result) offset extent.ensures;
+      key_len = c.key_len.ensures.offset ∙ ap (offset_of 0) c.text.ensures;
     }
 
 pub text-requires : goal.text-requires
@@ -70,11 +70,11 @@ key_len-requires c = rw c.text.ensures (string_small c.args.bytes.now (28 + 8 * 
 pub returns-clause-key : goal.returns-clause-key
 returns-clause-key c =
     let bytes = c.args.bytes.now in
-    let place = 28 + 8 * c.args.i in
+    let offset = 28 + 8 * c.args.i in
     omega (
       arith,
       c.key_len.ensures.within,
       ap length c.text.ensures,
-      length-take (word_at little_number bytes place) (drop (word_at little_number bytes (place + 4)) bytes),
+      length-take (word_at little_number bytes offset) (drop (word_at little_number bytes (offset + 4)) bytes),
       c.extent_at.ensures.len,
     )

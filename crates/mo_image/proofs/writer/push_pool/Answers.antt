@@ -1,4 +1,4 @@
-use Rattle.mo_image.specs.MoFile.{closed}
+use Rattle.mo_image.specs.MoFile.{with_nul}
 use Rattle.mo_image.specs.Strings.{string_of}
 use Rattle.mo_image.proofs.Writing.{piece_written, pool_split}
 use Rattle.mo_image.proofs.writer.push_pool.Goals as goal
@@ -7,5 +7,5 @@ pub loop-i-preserved : goal.loop-i-preserved
 loop-i-preserved g c =
     let m = g.L.EntryList.entries c.args.list.now in
     piece_written c.loop-i.out.items _ _ c.push_string.new.out.items
-    (closed (string_of c.args.side c.strings_at.result)) _ c.loop-i.invariant
+    (with_nul (string_of c.args.side c.strings_at.result)) _ c.loop-i.invariant
     (pool_split c.args.side m c.loop-i.i c.strings_at.result c.strings_at.ensures) c.in_ok-push_string.ensures

@@ -22,8 +22,8 @@ claims-init c = record {
 pub returns-then-byte_at : goal.returns-then-byte_at
 returns-then-byte_at c =
     let both = decided c.args.bytes.now c.compared-alike.result c.compared-alike.ensures.alike c.start-lesser.result
-    c.start-greater.result c.min-place.result (omega (arith, c.min-place.ensures))
-    (omega (arith, c.compared-alike.ensures.distance, c.abs_diff-distance.ensures, c.min-place.ensures))
+    c.start-greater.result c.min-offset.result (omega (arith, c.min-offset.ensures))
+    (omega (arith, c.compared-alike.ensures.distance, c.abs_diff-distance.ensures, c.min-offset.ensures))
     c.compared-alike.ensures.around.0 c.compared-alike.ensures.around.1 c.compared-alike.ensures.ends in (
       λ e. absurd cc,
       λ all.
@@ -41,8 +41,8 @@ returns-then-byte_at c =
 pub claims-preserved : goal.claims-preserved
 claims-preserved c =
     let both = decided c.args.bytes.now c.compared-alike.result c.compared-alike.ensures.alike c.start-lesser.result
-    c.start-greater.result c.min-place.result (omega (arith, c.min-place.ensures))
-    (omega (arith, c.compared-alike.ensures.distance, c.abs_diff-distance.ensures, c.min-place.ensures))
+    c.start-greater.result c.min-offset.result (omega (arith, c.min-offset.ensures))
+    (omega (arith, c.compared-alike.ensures.distance, c.abs_diff-distance.ensures, c.min-offset.ensures))
     c.compared-alike.ensures.around.0 c.compared-alike.ensures.around.1 c.compared-alike.ensures.ends in
     let held = rw (c.start-lesser.ensures, c.start-greater.ensures)
     at (both.1 (omega (arith, c.if-byte_at.false, c.byte_at.ensures, c.byte_at-in-claims.ensures))) in

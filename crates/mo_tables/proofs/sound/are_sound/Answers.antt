@@ -1,12 +1,12 @@
 use Rattle.std.proofs.Common.{◌≡◌, ◌+◌, ◌-◌, ◌*◌, ◌<◌, ℕ, List, refl, sym, ap, ◌∙◌, subst, arith}
 use Rattle.std.specs.Str.{IsUtf8}
-use Rattle.mo_tables.specs.MoTables.{before_nul, IsClosed, HasLawfulHeader}
+use Rattle.mo_tables.specs.MoTables.{before_nul, HasNul, HasLawfulHeader}
 use Rattle.mo_tables.specs.declared.rows.Span.{Span}
 use Rattle.mo_tables.specs.FileParts.{part, IsPart, KnowsSeparators, HasFewSeparators}
 use Rattle.mo_image.specs.Tables.{string_at}
 use Rattle.mo_tables.proofs.Cuts.{front_utf8}
 use Rattle.mo_tables.proofs.SoundRows.{IsSound, all_sound, one_sound, later_header, slice_is, text_at}
-use Rattle.mo_tables.proofs.SoundRows.{closed_at, first_lies}
+use Rattle.mo_tables.proofs.SoundRows.{has_nul_at, first_lies}
 use Rattle.mo_tables.proofs.sound.are_sound.Goals as goal
 use Rattle.mo_tables.proofs.sound.are_sound.Goals.{then-i-gt0+else-not-is_below, else-i-gt0+else-not-has_lawful_header}
 use Rattle.mo_tables.proofs.sound.are_sound.Goals.{then-not-lacks+in-Some, else-not-lacks}
@@ -74,11 +74,11 @@ loop-i-preserved g c =
       forms = found.1;
       header = header;
     } in
-    let shut : IsClosed number bytes (c.args.originals + 8 * i) × IsClosed number bytes
+    let shut : HasNul number bytes (c.args.originals + 8 * i) × HasNul number bytes
     (c.args.translations + 8 * i) = (
-      closed_at number bytes (c.args.originals + 8 * i) c.read_span-original.result c.read_span-original.ensures
+      has_nul_at number bytes (c.args.originals + 8 * i) c.read_span-original.result c.read_span-original.ensures
           (c.if-not-has.ensures refl).1,
-      closed_at number bytes
+      has_nul_at number bytes
           (c.args.translations + 8 * i) c.read_span-translation.result c.read_span-translation.ensures
           (c.if-not-has-2.ensures refl).1,
     ) in

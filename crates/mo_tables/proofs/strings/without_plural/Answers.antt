@@ -16,7 +16,7 @@ pub returns-then-count-eq2 : goal.returns-then-count-eq2
 returns-then-count-eq2 c all =
     let lies = c.requires c.rows.row-index nowhere c.rows-test.true in
     let counted = rw (c.start.ensures, c.end-end.ensures) at (c.count-count.ensures c.args.bytes.now 0 c.start.result
-    c.searched-places.ensures.counts (
+    c.searched-offsets.ensures.counts (
       omega (arith, c.start.ensures, c.end-end.ensures),
       omega
           (arith, c.end-end.ensures, lies),
@@ -27,13 +27,13 @@ pub rows-preserved : goal.rows-preserved
 rows-preserved c =
     let lies = c.requires c.rows.row-index nowhere c.rows-test.true in
     let counted = rw (c.start.ensures, c.end-end.ensures) at (c.count-count.ensures c.args.bytes.now 0 c.start.result
-    c.searched-places.ensures.counts (
+    c.searched-offsets.ensures.counts (
       omega (arith, c.start.ensures, c.end-end.ensures),
       omega
           (arith, c.end-end.ensures, lies),
     )) in
     record {
-      gaps = c.searched-places.ensures.gaps;
+      gaps = c.searched-offsets.ensures.gaps;
       once = All-more (OnceIn c.args.bytes.now) c.args.rows.now c.rows.row-index nowhere c.rows-test.true
           c.rows.invariant.once
           (omega (arith, counted, c.if-count-eq2.false));

@@ -12,24 +12,24 @@ returns-then-end-to c bytes byte start counts is =
 
 pub returns-then-end-to-2 : goal.returns-then-end-to-2
 returns-then-end-to-2 c bytes byte start counts is =
-    let places = c.args.self in
-    let here : places.first.to < c.args.end = omega (arith, c.if-end-to.false, c.to.ensures) in
+    let offsets = c.args.self in
+    let here : offsets.first.to < c.args.end = omega (arith, c.if-end-to.false, c.to.ensures) in
     omega (
       arith,
-      count_here bytes byte start c.args.end places.first counts.first is.0 is.1 here,
-      count_nowhere bytes byte (places.first.to + 1) c.args.end places.second (counts.second here) (omega
+      count_here bytes byte start c.args.end offsets.first counts.first is.0 is.1 here,
+      count_nowhere bytes byte (offsets.first.to + 1) c.args.end offsets.second (counts.second here) (omega
           (arith, here)) is.1
           (omega (arith, c.if-end-to-2.true, c.to-else-end-to.ensures)),
     )
 
 pub returns-else-end-to-2 : goal.returns-else-end-to-2
 returns-else-end-to-2 c bytes byte start counts is =
-    let places = c.args.self in
-    let here : places.first.to < c.args.end = omega (arith, c.if-end-to.false, c.to.ensures) in
+    let offsets = c.args.self in
+    let here : offsets.first.to < c.args.end = omega (arith, c.if-end-to.false, c.to.ensures) in
     omega (
       arith,
-      count_here bytes byte start c.args.end places.first counts.first is.0 is.1 here,
-      count_here bytes byte (places.first.to + 1) c.args.end places.second (counts.second here) (omega
+      count_here bytes byte start c.args.end offsets.first counts.first is.0 is.1 here,
+      count_here bytes byte (offsets.first.to + 1) c.args.end offsets.second (counts.second here) (omega
           (arith, here)) is.1
           (omega (arith, c.if-end-to-2.false, c.to-else-end-to.ensures)),
     )

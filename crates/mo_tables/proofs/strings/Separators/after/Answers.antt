@@ -8,7 +8,7 @@ use Rattle.mo_tables.proofs.strings.Separators.after.Goals as goal
 
 pub returns-then-end-to : goal.returns-then-end-to
 returns-then-end-to c = (
-  record { none = c.searched-none.ensures.lacks; key = c.requires.known.key; places = c.requires.known.places },
+  record { none = c.searched-none.ensures.lacks; key = c.requires.known.key; offsets = c.requires.known.offsets },
   omega (
     arith,
     count_key 4 (part c.args.bytes.now c.args.start c.args.end),
@@ -26,15 +26,15 @@ returns-then-count-lt2 c =
     key_part bytes c.args.start c.args.end c.searched-key.result c.searched-key.ensures c.requires.part.0
     c.requires.part.1
     ∙ ap (part bytes c.args.start) (sym end) in
-    let counted = c.count.ensures bytes 4 c.args.start c.searched-places.ensures.counts (
+    let counted = c.count.ensures bytes 4 c.args.start c.searched-offsets.ensures.counts (
       omega (arith, end, c.requires.part.0, c.searched-key.ensures.around.1),
       omega (arith, end, c.requires.part.1),
     ) in (
       record {
         none = c.searched-none.ensures.lacks;
         key = c.searched-key.ensures.lacks;
-        places =
-            c.searched-places.ensures.gaps;
+        offsets =
+            c.searched-offsets.ensures.gaps;
       },
       omega (arith, ap (count_by (is 4)) key, counted, c.if-count-lt2.true),
     )
@@ -48,7 +48,7 @@ returns-else-count-lt2 c few =
     key_part bytes c.args.start c.args.end c.searched-key.result c.searched-key.ensures c.requires.part.0
     c.requires.part.1
     ∙ ap (part bytes c.args.start) (sym end) in
-    let counted = c.count.ensures bytes 4 c.args.start c.searched-places.ensures.counts (
+    let counted = c.count.ensures bytes 4 c.args.start c.searched-offsets.ensures.counts (
       omega (arith, end, c.requires.part.0, c.searched-key.ensures.around.1),
       omega (arith, end, c.requires.part.1),
     ) in

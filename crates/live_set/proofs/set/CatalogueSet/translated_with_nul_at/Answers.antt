@@ -1,5 +1,5 @@
 use Rattle.std.proofs.Common.{rules}
-use Rattle.live_set.proofs.set.CatalogueSet.translated_closed_at.Goals as goal
+use Rattle.live_set.proofs.set.CatalogueSet.translated_with_nul_at.Goals as goal
 
 pub returns : goal.returns
 returns c = search rules

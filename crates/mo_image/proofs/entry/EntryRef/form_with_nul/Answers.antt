@@ -1,13 +1,13 @@
 use Rattle.std.proofs.Common.{◌≡◌, ℕ, List, Option, sym, ap, ◌∙◌, subst}
 use Rattle.std.specs.Prelude.{IfSome, option_map}
-use Rattle.mo_image.specs.MoFile.{closed}
+use Rattle.mo_image.specs.MoFile.{with_nul}
 use Rattle.mo_image.proofs.Closing.{only_form}
-use Rattle.mo_image.proofs.entry.EntryRef.closed_form.Goals as goal
+use Rattle.mo_image.proofs.entry.EntryRef.form_with_nul.Goals as goal
 
 pub returns-in-None : goal.returns-in-None
 returns-in-None c =
     let found = only_form c.self.inside.original.now c.self.inside.translation.now c.args.self.now c.args.k
     c.self.invariant.lawful c.self.view_is
     (sym c.plural.ensures ∙ ap (option_map (λ s. s.now)) c.in-None.is) c.requires in
-    subst (λ (o : Option (List ℕ)). IfSome o (λ form. c.as_bytes.result.now ≡ closed form)) (sym found)
-    (c.as_bytes.ensures.value ∙ c.self.invariant.closed)
+    subst (λ (o : Option (List ℕ)). IfSome o (λ form. c.as_bytes.result.now ≡ with_nul form)) (sym found)
+    (c.as_bytes.ensures.value ∙ c.self.invariant.with_nul)

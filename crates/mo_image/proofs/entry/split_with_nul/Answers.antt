@@ -1,17 +1,17 @@
 use Rattle.std.proofs.Common.{List, ℕ, Option, take, length, ◌+◌, refl, subst}
 use Rattle.std.specs.Prelude.{IfSome}
-use Rattle.mo_image.specs.Lent.{IsClosedCut}
-use Rattle.mo_image.proofs.Closing.{closed_front}
-use Rattle.mo_image.proofs.entry.split_closed.Goals as goal
+use Rattle.mo_image.specs.Lent.{IsCutWithNul}
+use Rattle.mo_image.proofs.Closing.{front_with_nul}
+use Rattle.mo_image.proofs.entry.split_with_nul.Goals as goal
 
 pub returns-in-Some : goal.returns-in-Some
 returns-in-Some c =
     let form = c.in-Some.form.now in
     let others = c.in-Some.others.now in
     let P : Option (List ℕ × List ℕ) → Type 0 =
-    λ parts. IfSome parts (λ p. IsClosedCut p (take (length form + 1) c.as_bytes.result.now) others) in
+    λ parts. IfSome parts (λ p. IsCutWithNul p (take (length form + 1) c.as_bytes.result.now) others) in
     let told = c.in-Some.ensures in
     subst P told.cut (record {
-      form = rw c.as_bytes.ensures.value (closed_front c.args.forms.now form others told.cases);
+      form = rw c.as_bytes.ensures.value (front_with_nul c.args.forms.now form others told.cases);
       others = refl;
     })

@@ -1,6 +1,0 @@
-use Rattle.std.proofs.Common.{ℕ, ◌+◌, ◌*◌, ◌<◌}
-use Rattle.mo_tables.specs.MoTables.{IsClosed}
-use Rattle.mo_tables.proofs.tables.all_closed.Given as goal
-
-abbrev pub invariant-loop-i : goal.invariant-loop-i
-invariant-loop-i g l = (k : ℕ) → k < l.i → IsClosed g.T.ByteOrder.number_of l.bytes (l.table + 8 * k)
