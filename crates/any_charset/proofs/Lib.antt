@@ -1,3 +1,3 @@
 mod LineParts
-mod Placing
+mod Offsets
 pub mod Failing

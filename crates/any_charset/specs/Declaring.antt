@@ -9,8 +9,8 @@ use Rattle.std.specs.Str.{bytes_eq}
 use Rattle.memchr.specs.Find.{FindsNeedle}
 use Rattle.charsets.specs.Naming.{IsNameOf}
 use Rattle.charsets.specs.declared.kinds.Charset.{Charset}
-use Rattle.any_charset.specs.declared.front.Place.{Place}
-use Rattle.any_charset.specs.declared.front.Place.TheVariants.{Before, AfterMsgid, InHeader, Elsewhere}
+use Rattle.any_charset.specs.declared.front.Stage.{Stage}
+use Rattle.any_charset.specs.declared.front.Stage.TheVariants.{Before, AfterMsgid, InHeader, Elsewhere}
 
 -- ---- the header at the front
 
@@ -22,18 +22,18 @@ lines text = slice_split (λ b. b == 10) text
 abbrev pub is_gap : List ℕ → Bool
 is_gap line = bytes_eq line [] || starts_with nat_eq line (codes "#")
 
--- where a line leads from a place: before the header's msgid, after it, in the header's msgstr, or elsewhere
-abbrev pub place_behind : Place → List ℕ → Place
-place_behind Before line =
+-- where a line leads from a stage: before the header's msgid, after it, in the header's msgstr, or elsewhere
+abbrev pub stage_behind : Stage → List ℕ → Stage
+stage_behind Before line =
     if is_gap line then Before else (if bytes_eq line (codes "msgid \"\"") then AfterMsgid else Elsewhere)
-place_behind AfterMsgid line = if starts_with nat_eq line (codes "msgstr \"") then InHeader else Elsewhere
-place_behind InHeader line = if starts_with nat_eq line (codes "\"") then InHeader else Elsewhere
-place_behind Elsewhere line = Elsewhere
+stage_behind AfterMsgid line = if starts_with nat_eq line (codes "msgstr \"") then InHeader else Elsewhere
+stage_behind InHeader line = if starts_with nat_eq line (codes "\"") then InHeader else Elsewhere
+stage_behind Elsewhere line = Elsewhere
 
 -- where these lines lead
-abbrev pub place_after : Place → List (List ℕ) → Place
-place_after place [] = place
-place_after place (line ∷ more) = place_after (place_behind place line) more
+abbrev pub stage_after : Stage → List (List ℕ) → Stage
+stage_after stage [] = stage
+stage_after stage (line ∷ more) = stage_after (stage_behind stage line) more
 
 -- ---- the charset
 
@@ -66,7 +66,7 @@ NamesNone text = (at : ℕ) (charset : Charset) (renamed : List ℕ) → ¬ Name
 pub record Declares (text : List ℕ) (charset : Charset) (renamed : List ℕ) : Type 0 where
   pub at : ℕ
   pub names : NamesAt text at charset renamed
-  pub header : place_after Before (lines (take at text)) ≡ InHeader
+  pub header : stage_after Before (lines (take at text)) ≡ InHeader
 
 -- the text declares no charset that is known here
 abbrev pub DeclaresNone : List ℕ → Type 0

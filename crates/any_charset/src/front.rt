@@ -1,13 +1,13 @@
 //! Whether the front of a text leads into its header.
 ghost use Rattle.std.specs.Prelude.{◌≡◌, ◌∷◌, [], ◌<◌, ◌↔◌, IsTrue, IfSome, length};
-ghost use Rattle.any_charset.specs.Declaring.{is_gap, lines, place_after, place_behind};
+ghost use Rattle.any_charset.specs.Declaring.{is_gap, lines, stage_after, stage_behind};
 ghost use Rattle.any_charset.specs.LineRest.{lines_left};
 
 use byte_text::offset_of;
 
-/// A place at the end of some lines at the front of a text.
+/// How far some lines at the front of a text lead.
 #[derive(Clone, Copy, Debug, PartialEq, Eq)]
-pub enum Place {
+pub enum Stage {
     /// After comments and empty lines alone.
     Before,
     /// After the line `msgid ""`.
@@ -38,36 +38,36 @@ fn is_gap(line: &[u8]) -> bool
     line.is_empty() || line.starts_with(b"#")
 }
 
-/// Where a line leads from a place.
-fn place_behind(place: Place, line: &[u8]) -> Place
-    ensures { result ≡ place_behind place line.now }
+/// The stage that a line leads to from another.
+fn stage_behind(stage: Stage, line: &[u8]) -> Stage
+    ensures { result ≡ stage_behind stage line.now }
 {
-    match place {
-        Place::Before if is_gap(line) => Place::Before,
-        Place::Before if line == b"msgid \"\"".as_slice() => Place::AfterMsgid,
-        Place::AfterMsgid if line.starts_with(b"msgstr \"") => Place::InHeader,
-        Place::InHeader if line.starts_with(b"\"") => Place::InHeader,
-        _ => Place::Elsewhere,
+    match stage {
+        Stage::Before if is_gap(line) => Stage::Before,
+        Stage::Before if line == b"msgid \"\"".as_slice() => Stage::AfterMsgid,
+        Stage::AfterMsgid if line.starts_with(b"msgstr \"") => Stage::InHeader,
+        Stage::InHeader if line.starts_with(b"\"") => Stage::InHeader,
+        _ => Stage::Elsewhere,
     }
 }
 
-/// The place that the lines of a text lead to.
-fn place_after(text: &[u8]) -> Place
-    ensures { result ≡ place_after Place.Before (lines text.now) }
+/// The stage that the lines of a text lead to.
+fn stage_after(text: &[u8]) -> Stage
+    ensures { result ≡ stage_after Stage.Before (lines text.now) }
 {
-    let mut place = Place::Before;
+    let mut stage = Stage::Before;
     let mut rest = text;
     'lines: loop {
         let (line, later) = split_line(rest);
-        place = place_behind(place, line);
-        let Some(next) = later else { return place };
+        stage = stage_behind(stage, line);
+        let Some(next) = later else { return stage };
         rest = next;
     }
 }
 
 /// Whether a text leads into the header's msgstr.
 pub(crate) fn leads_into_header(text: &[u8]) -> bool
-    ensures { IsTrue result ↔ (place_after Place.Before (lines text.now) ≡ Place.InHeader) }
+    ensures { IsTrue result ↔ (stage_after Stage.Before (lines text.now) ≡ Stage.InHeader) }
 {
-    matches!(place_after(text), Place::InHeader)
+    matches!(stage_after(text), Stage::InHeader)
 }

@@ -32,15 +32,15 @@ const ORDERS: &[Order] = &[
 const COUNTS: &[u32] = &[250_000, 500_000, 1_000_000, 2_000_000];
 
 impl Order {
-    /// The number of the directive at a place, from 1 to the count.
-    fn number_at(self, place: u32, count: u32) -> u32
-        requires { place < count }
+    /// The number of the directive with an index, from 1 to the count.
+    fn number_at(self, index: u32, count: u32) -> u32
+        requires { index < count }
     {
         match self {
             Order::Unnumbered | Order::Same => 1,
-            Order::Rising => place + 1,
-            Order::Falling => count - place,
-            Order::Spread => (u64::from(place) * 7919 % u64::from(count)) as u32 + 1,
+            Order::Rising => index + 1,
+            Order::Falling => count - index,
+            Order::Spread => (u64::from(index) * 7919 % u64::from(count)) as u32 + 1,
         }
     }
 }
@@ -62,8 +62,8 @@ fn push_directive(
 /// A text of `count` directives in this order.
 fn format_of(alloc: Global, order: Order, count: u32) -> Result<String, AllocError> {
     let mut text = String::new(alloc);
-    for place in 0..count {
-        push_directive(alloc, &mut text, order, order.number_at(place, count))?;
+    for index in 0..count {
+        push_directive(alloc, &mut text, order, order.number_at(index, count))?;
     }
     Ok(text)
 }

@@ -39,9 +39,9 @@ use std::{env, io};
 /// How long a soak takes, in seconds, if no argument says so.
 const SECONDS: u32 = 60;
 
-/// An argument, or an empty text if there is none at this place.
-fn word(words: &[String], place: usize) -> &str {
-    match words.get(place) {
+/// An argument, or an empty text if there is none with this index.
+fn word(words: &[String], index: usize) -> &str {
+    match words.get(index) {
         Some(word) => word.as_str(),
         None => "",
     }

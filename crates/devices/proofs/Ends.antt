@@ -27,20 +27,20 @@ one_line (x ∷ y ∷ ys) some fails =
     let head : is_line_end x ≡ false = fails 0 (omega arith) in
     rw (head, one_line (y ∷ ys) (omega arith) (λ k l. fails (suc k) (omega arith))) refl
 
--- there is no LF after a place
+-- there is no LF after a offset
 pub lacks_behind : (xs : List ℕ) (from to : ℕ) → LacksEnd xs from to → (k : ℕ) → from + k < to
     → is_line_end (get_or (drop from xs) k 0) ≡ false
 lacks_behind xs from to lacks k lt = rw (get_or-drop from xs k 0) (lacks (from + k) (omega arith) lt)
 
 -- a line ends after its LF
-pub line_at : (input : Incoming) (from place : ℕ) → from ≤ place → place < length input.left
-    → LacksEnd input.left from place → is_line_end (slice_index input.left place) ≡ true
-    → EndsLine input from (place + 1)
-line_at input from place low high lacks ends =
-    let n : ℕ = place - from in
-    let here : from + n ≡ place = omega arith in
-    let past : place + 1 - from ≡ suc n = omega arith in
-    let far : from + suc n ≡ place + 1 = omega arith in
+pub line_at : (input : Incoming) (from offset : ℕ) → from ≤ offset → offset < length input.left
+    → LacksEnd input.left from offset → is_line_end (slice_index input.left offset) ≡ true
+    → EndsLine input from (offset + 1)
+line_at input from offset low high lacks ends =
+    let n : ℕ = offset - from in
+    let here : from + n ≡ offset = omega arith in
+    let past : offset + 1 - from ≡ suc n = omega arith in
+    let far : from + suc n ≡ offset + 1 = omega arith in
     let there : is_line_end (get_or (drop from input.left) n 0) ≡ true = rw (get_or-drop from input.left n 0, here)
     ends in
     record {
@@ -48,7 +48,7 @@ line_at input from place low high lacks ends =
       within = omega arith;
       cut = λ text may. rw (past, ← far, ← drop-drop (suc n) from input.left)
           (ends_at (drop from input.left) text n (omega (arith, length-drop from input.left))
-          (λ k l. lacks_behind input.left from place lacks k (omega arith)) there);
+          (λ k l. lacks_behind input.left from offset lacks k (omega arith)) there);
     }
 
 -- the last line ends where the input does
@@ -69,7 +69,7 @@ line_last input from some lacks ended = record {
 
 -- ---- a search for an LF after the bytes that were searched before
 
--- what follows a place, as a part of a text that reaches to its end
+-- what follows a offset, as a part of a text that reaches to its end
 pub rest_is : (xs : List ℕ) (from : ℕ) → take (length xs - from) (drop from xs) ≡ drop from xs
 rest_is xs from = take_all (length xs - from) (drop from xs) (omega (arith, length-drop from xs))
 
@@ -82,7 +82,7 @@ lacks_both xs from to end before behind k low high = elim (cases_lt k to) [
   | inr le ↦ behind k le high
 ]
 
--- what was searched lacks LF up to such a place
+-- what was searched lacks LF up to such a offset
 searched_to : (xs : List ℕ) (searched n : ℕ) → ((k : ℕ) → k < n → is_line_end (get_or (drop searched xs) k 0) ≢ true)
     → LacksEnd xs searched (searched + n)
 searched_to xs searched n fails k low high =

@@ -196,7 +196,7 @@ line_end_there : (input : Incoming) (here : ℕ)
 line_end_there input here below =
     let k : ℕ = position_or_len is_line_end (drop here input.left) in
     record {
-      place = here + k;
+      offset = here + k;
       low = omega arith;
       high = omega (arith, length-drop here input.left);
       ends = rw (← get_or-drop here input.left k 0) (passes_at_first is_line_end (drop here input.left) 0 below);

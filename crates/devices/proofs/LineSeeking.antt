@@ -48,8 +48,8 @@ searched_more a b c f f' f'' r r' r'' turn x y z from searched had none read end
 -- what is searched has no end
 pub no_end : (input : Incoming) (from : ℕ) → HasNoEnd input from → HasEnd input from → ⊥
 no_end input from none (inl ended) = both input.ended ended none.going
-no_end input from none (inr there) = both (is_line_end (slice_index input.left there.place)) there.ends
-    (none.lacks there.place there.low there.high)
+no_end input from none (inr there) = both (is_line_end (slice_index input.left there.offset)) there.ends
+    (none.lacks there.offset there.low there.high)
 
 -- no LF within the first bytes
 pub lacks_known : (input : Incoming) (from end most : ℕ) → IsKnownEnd input from end → most < end

@@ -13,18 +13,18 @@ pub record Incoming : Type 0 where
 abbrev pub MayCome : Incoming → List ℕ → Type 0
 MayCome input text = input.ended ≡ true → text ≡ []
 
--- there is no LF from one place of a text up to another
+-- there is no LF from one offset of a text up to another
 abbrev pub LacksEnd : List ℕ → ℕ → ℕ → Type 0
 LacksEnd text from to = (k : ℕ) → from ≤ k → k < to → is_line_end (slice_index text k) ≡ false
 
--- there is an LF at a place of a text, or after it
+-- there is an LF at an offset of a text, or after it
 pub record HasLineEnd (text : List ℕ) (from : ℕ) : Type 0 where
-  pub place : ℕ
-  pub low : from ≤ place
-  pub high : place < length text
-  pub ends : is_line_end (slice_index text place) ≡ true
+  pub offset : ℕ
+  pub low : from ≤ offset
+  pub high : offset < length text
+  pub ends : is_line_end (slice_index text offset) ≡ true
 
--- the end of the line that begins at a place has come
+-- the end of the line that begins at an offset has come
 abbrev pub HasEnd : Incoming → ℕ → Type 0
 HasEnd input from = (input.ended ≡ true) ⊎ HasLineEnd input.left from
 

@@ -1,7 +1,7 @@
 //! The reading threads: each client's requests.
 ghost use Rattle.std.specs.Prelude.{◌≡◌, [], ◌∷◌, IfOk, OnOk};
 ghost use Rattle.live_versions.specs.Batches.{joined, version_of, StartsWith};
-ghost use Rattle.live_versions.specs.Entering.{entry_of};
+ghost use Rattle.live_versions.specs.Entering.{visit_of};
 ghost use Rattle.life.specs.Acts.{LeadsAll};
 ghost use Rattle.life.specs.Replies.{AreTextsOf, AreReplies, queries_in, acts_for};
 
@@ -20,7 +20,7 @@ fn look_all(
     pinned: &Pinned<'_>,
     queries: &[Query],
 ) -> Result<Vec<String>, AllocError>
-    ensures { IfOk result (λ texts. AreTextsOf (joined (entry_of pinned.now).batches) queries.now texts.items) }
+    ensures { IfOk result (λ texts. AreTextsOf (joined (visit_of pinned.now).batches) queries.now texts.items) }
 {
     let mut texts = Vec::new(alloc);
     for index in 0..queries.len() {

@@ -8,7 +8,7 @@ use Rattle.std.proofs.lemmas.Bool.Decides.{nat_tests}
 use mathlib.Core.List.{IsPrefix}
 use Rattle.std.proofs.lemmas.List.Sums.{fold-append}
 use Rattle.live_set.specs.Loads.{LoadValue}
-use Rattle.live_set.specs.Sets.{SetValue, absorbed, no_loads}
+use Rattle.live_set.specs.Sets.{SetValue, with_load, no_loads}
 use Rattle.live_set.specs.Sets.{fold as fold_of}
 use Rattle.live_loads.specs.Batches.{joined, version_of, StartsWith, NoneEmpty, published}
 
@@ -68,20 +68,20 @@ pub version-published : (v : List (List LoadValue)) (loads : List LoadValue) →
 version-published v loads = ap length (joined-published v loads) ∙ length-append (joined v) loads
 
 version-fold : (s : SetValue) (loads : List LoadValue) → s.version + length loads < 2 ^ 64
-    → (fold absorbed s loads).version ≡ s.version + length loads
+    → (fold with_load s loads).version ≡ s.version + length loads
 version-fold s [] fits = omega arith
-version-fold s (x ∷ xs) fits = let a : (absorbed s x).version ≡ s.version + 1 = omega (arith, fits) in
-    let i = version-fold (absorbed s x) xs (omega (arith, a, fits)) in omega (arith, a, i)
+version-fold s (x ∷ xs) fits = let a : (with_load s x).version ≡ s.version + 1 = omega (arith, fits) in
+    let i = version-fold (with_load s x) xs (omega (arith, a, fits)) in omega (arith, a, i)
 
 pub version-fold_of : (loads : List LoadValue) → length loads < 2 ^ 64 → (fold_of loads).version ≡ length loads
 version-fold_of loads fits = let i = version-fold no_loads loads (omega (arith, fits)) in omega (arith, i)
 
-pub fold-append_of : (xs ys : List LoadValue) → fold_of (xs ++ ys) ≡ fold absorbed (fold_of xs) ys
-fold-append_of xs ys = fold-append absorbed no_loads xs ys
+pub fold-append_of : (xs ys : List LoadValue) → fold_of (xs ++ ys) ≡ fold with_load (fold_of xs) ys
+fold-append_of xs ys = fold-append with_load no_loads xs ys
 
 -- the set after a publish counts its loads
 pub version-fold_set : (s : SetValue) (v : List (List LoadValue)) (loads : List LoadValue) → s.version ≡ version_of v
-    → version_of v + length loads < 2 ^ 64 → (fold absorbed s loads).version ≡ version_of (published v loads)
+    → version_of v + length loads < 2 ^ 64 → (fold with_load s loads).version ≡ version_of (published v loads)
 version-fold_set s v loads is room = let a = version-fold s loads (omega (arith, is, room)) in let b = version-published
     v loads in omega (arith, a, b, is)
 

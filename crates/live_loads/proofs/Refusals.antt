@@ -2,7 +2,7 @@
 use Rattle.std.proofs.Common.{◌≡◌, ℕ, List, [], ◌∷◌, ◌++◌, refl, sym, ap, ◌∙◌, arith, inl, inr}
 use Rattle.std.proofs.lemmas.Bool.{cases_lt}
 use Rattle.catalogue.specs.Entry.{Entry}
-use Rattle.live_loads.specs.Store.{StoreValue, accepted, IsWithin, AreNames, HasRoom, AddsLoad, IsRefusedFor}
+use Rattle.live_loads.specs.Store.{StoreValue, accepted_count, IsWithin, AreNames, HasRoom, AddsLoad, IsRefusedFor}
 use Rattle.live_loads.specs.LoadAnswers.{HasReason, HasOneReason}
 use Rattle.live_loads.specs.declared.fault.StoreFault.{StoreFault}
 use Rattle.live_loads.specs.declared.fault.StoreFault.TheVariants.{BadName, VersionsSpent, Refused, RefusedMo}
@@ -69,7 +69,7 @@ is_read P s domain locale within no_reason unread =
       (
         (λ is. absurd (cc is)),
         λ (names : AreNames domain locale).
-            elim (cases_lt (accepted s) s.most) [
+            elim (cases_lt (accepted_count s) s.most) [
               | inl room ↦ unread names room
               | inr full ↦ no_reason (VersionsSpent, ((λ is. absurd (cc is)), (names, omega (arith, within, full))))
             ],

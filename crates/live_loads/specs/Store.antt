@@ -23,12 +23,12 @@ pub record StoreValue : Type 0 where
   pub most : ℕ
 
 -- the number of loads accepted: published or pending
-abbrev pub accepted : StoreValue → ℕ
-accepted s = version_of s.seen.batches + length s.pending
+abbrev pub accepted_count : StoreValue → ℕ
+accepted_count s = version_of s.seen.batches + length s.pending
 
 -- no more loads were accepted than the store takes
 abbrev pub IsWithin : StoreValue → Type 0
-IsWithin s = accepted s ≤ s.most
+IsWithin s = accepted_count s ≤ s.most
 
 -- both are names
 pub record AreNames (domain locale : List ℕ) : Type 0 where
@@ -37,7 +37,7 @@ pub record AreNames (domain locale : List ℕ) : Type 0 where
 
 -- one more load may be accepted
 abbrev pub HasRoom : StoreValue → Type 0
-HasRoom s = accepted s < s.most
+HasRoom s = accepted_count s < s.most
 
 -- a load of this map is accepted: both names are names, there is room, and it becomes the last pending load
 pub record AddsLoad (s : StoreValue) (domain locale : List ℕ) (map : List Entry) (after : StoreValue) : Type 0 where
@@ -82,7 +82,7 @@ IsRefusedIn IsBytesFault room domain locale fault = AreNames domain locale × (r
 
 -- how many loads the store has accepted, of how many
 abbrev pub room_of : StoreValue → Room
-room_of s = record { accepted = accepted s; most = s.most }
+room_of s = record { accepted = accepted_count s; most = s.most }
 
 -- a load whose bytes have such faults is refused by this store for this reason
 abbrev pub IsRefusedFor : (StoreFault → Type 0) → StoreValue → List ℕ → List ℕ → StoreFault → Type 0

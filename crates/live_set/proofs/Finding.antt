@@ -3,8 +3,8 @@ use Rattle.std.proofs.Common.{◌≡◌, ℕ, Bool, true, false, cond, List, [],
 use Rattle.std.proofs.Common.{Equal, Greater, filter, find, refl, sym, ap, subst, ◌∙◌}
 use Rattle.std.specs.Ordering.{is_lt}
 use Rattle.live_set.specs.Loads.{LoadValue, is_for, map_or_empty}
-use Rattle.live_set.specs.Sets.{SetValue, HasAbsorbed, absorbed}
-use Rattle.live_set.specs.Slots.{compared, is_before, slotted, asked}
+use Rattle.live_set.specs.Sets.{SetValue, HasAbsorbed, with_load}
+use Rattle.live_set.specs.Slots.{order_of, is_before, with_slot, probe}
 use Rattle.live_set.proofs.Order.{flipped, tied_for, not_for, beside, less_ne, greater_ne}
 
 -- ---- a search of a filtered list
@@ -71,28 +71,28 @@ module _ (domain locale : List ℕ) (held : List LoadValue) (x : LoadValue) wher
   after = λ l. is_before x l
 
   -- how the load compares with one for the pair
-  is_beside : (o : Ordering) → compared x (asked domain locale) ≡ o → (z : LoadValue) → p z ≡ true → compared x z ≡ o
+  is_beside : (o : Ordering) → order_of x (probe domain locale) ≡ o → (z : LoadValue) → p z ≡ true → order_of x z ≡ o
   is_beside o h z pz = beside domain locale x z pz ∙ h
 
-  found_here : compared x (asked domain locale) ≡ Equal → find p (slotted held x) ≡ cond (p x) (Some x) (find p held)
+  found_here : order_of x (probe domain locale) ≡ Equal → find p (with_slot held x) ≡ cond (p x) (Some x) (find p held)
   found_here h =
       let yes : p x ≡ true = tied_for domain locale x h in
-      let past : find p (slotted held x) ≡ find p (x ∷ filter after held) = find_past p before
+      let past : find p (with_slot held x) ≡ find p (x ∷ filter after held) = find_past p before
       (λ z pz. ap is_lt (flipped x z Equal (is_beside Equal h z pz))) held (x ∷ filter after held) in
       past ∙ ap (λ c. cond c (Some x) (find p (filter after held))) yes
       ∙ sym (ap (λ c. cond c (Some x) (find p held)) yes)
 
-  found_behind : compared x (asked domain locale) ≡ Less → find p (slotted held x) ≡ cond (p x) (Some x) (find p held)
+  found_behind : order_of x (probe domain locale) ≡ Less → find p (with_slot held x) ≡ cond (p x) (Some x) (find p held)
   found_behind h =
       let no : p x ≡ false = not_for domain locale x Less h less_ne in
-      let past : find p (slotted held x) ≡ find p (x ∷ filter after held) = find_past p before
+      let past : find p (with_slot held x) ≡ find p (x ∷ filter after held) = find_past p before
       (λ z pz. ap is_lt (flipped x z Less (is_beside Less h z pz))) held (x ∷ filter after held) in
       let kept : find p (filter after held) ≡ find p held = find_kept p after (λ z pz. ap is_lt (is_beside Less h z pz))
       held in
       past ∙ ap (λ c. cond c (Some x) (find p (filter after held))) no ∙ kept
       ∙ sym (ap (λ c. cond c (Some x) (find p held)) no)
 
-  found_before : compared x (asked domain locale) ≡ Greater → find p (slotted held x)
+  found_before : order_of x (probe domain locale) ≡ Greater → find p (with_slot held x)
       ≡ cond (p x) (Some x) (find p held)
   found_before h =
       let no : p x ≡ false = not_for domain locale x Greater h greater_ne in
@@ -100,15 +100,15 @@ module _ (domain locale : List ℕ) (held : List LoadValue) (x : LoadValue) wher
       held in
       let behind : find p (x ∷ filter after held) ≡ None = ap (λ c. cond c (Some x) (find p (filter after held))) no
       ∙ none in
-      let front : find p (slotted held x) ≡ find p (filter before held) = find_front p before (filter before held)
+      let front : find p (with_slot held x) ≡ find p (filter before held) = find_front p before (filter before held)
       (x ∷ filter after held) behind in
       let kept : find p (filter before held) ≡ find p held = find_kept p before
       (λ z pz. ap is_lt (flipped x z Greater (is_beside Greater h z pz))) held in
       front ∙ kept ∙ sym (ap (λ c. cond c (Some x) (find p held)) no)
 
-  pub find-slotted : find p (slotted held x) ≡ cond (p x) (Some x) (find p held)
+  pub find-slotted : find p (with_slot held x) ≡ cond (p x) (Some x) (find p held)
   find-slotted =
-      elim (compared x (asked domain locale)) as (λ o. compared x (asked domain locale) ≡ o → find p (slotted held x)
+      elim (order_of x (probe domain locale)) as (λ o. order_of x (probe domain locale) ≡ o → find p (with_slot held x)
       ≡ cond (p x) (Some x) (find p held)) [
         | Less ↦ λ e. found_behind e
         | Equal ↦ λ e. found_here e
@@ -122,12 +122,12 @@ map_by : (b : Bool) (o : Option LoadValue) (x : LoadValue) → map_or_empty (con
 map_by true o x = refl
 map_by false o x = refl
 
-has_absorbed : (x : LoadValue) (s : SetValue) → HasAbsorbed x s (absorbed s x)
+has_absorbed : (x : LoadValue) (s : SetValue) → HasAbsorbed x s (with_load s x)
 has_absorbed x s = record {
   version = refl;
   maps = λ domain locale. ap map_or_empty (find-slotted domain locale s.held x)
       ∙ map_by (is_for domain locale x) (find (is_for domain locale) s.held) x;
 }
 
-pub absorbs : (x : LoadValue) (s t : SetValue) → t ≡ absorbed s x → HasAbsorbed x s t
+pub absorbs : (x : LoadValue) (s t : SetValue) → t ≡ with_load s x → HasAbsorbed x s t
 absorbs x s t is = subst (HasAbsorbed x s) (sym is) (has_absorbed x s)

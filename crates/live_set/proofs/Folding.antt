@@ -3,7 +3,7 @@ use Rattle.std.proofs.Common.{◌≡◌, ℕ, ◌+◌, ◌≤◌, min, Bool, tru
 use Rattle.std.proofs.Common.{filter, find, refl, ap, ◌∙◌, arith}
 use Rattle.std.specs.List.{last_or}
 use Rattle.live_set.specs.Loads.{LoadValue, is_for, map_or_empty, map_of}
-use Rattle.live_set.specs.Sets.{SetValue, no_loads, absorbed, map_in}
+use Rattle.live_set.specs.Sets.{SetValue, no_loads, with_load, map_in}
 use Rattle.live_set.specs.Sets.{fold as set_of}
 use Rattle.live_set.proofs.Finding.{find-slotted}
 
@@ -14,12 +14,12 @@ last_of true o x xs = refl
 last_of false o x xs = refl
 
 found : (domain locale : List ℕ) (loads : List LoadValue) (s : SetValue)
-    → find (is_for domain locale) (fold absorbed s loads).held
+    → find (is_for domain locale) (fold with_load s loads).held
     ≡ last_or (find (is_for domain locale) s.held) (filter (is_for domain locale) loads)
 found domain locale [] s = refl
 found domain locale (x ∷ loads) s =
     let p = is_for domain locale in
-    found domain locale loads (absorbed s x)
+    found domain locale loads (with_load s x)
     ∙ ap (λ o. last_or o (filter p loads)) (find-slotted domain locale s.held x)
     ∙ last_of (p x) (find p s.held) x (filter p loads)
 
@@ -29,12 +29,12 @@ pub map_in-fold : (loads : List LoadValue) (domain locale : List ℕ) → map_in
 map_in-fold loads domain locale = ap map_or_empty (found domain locale loads no_loads)
 
 counted : (loads : List LoadValue) (s : SetValue) → s.version + length loads ≤ 18446744073709551615
-    → (fold absorbed s loads).version ≡ s.version + length loads
+    → (fold with_load s loads).version ≡ s.version + length loads
 counted [] s le = omega arith
 counted (x ∷ loads) s le =
     let one : min (s.version + 1) 18446744073709551615 ≡ s.version + 1 = omega (arith, le) in
     let all : min (s.version + 1) 18446744073709551615 + length loads ≤ 18446744073709551615 = omega (arith, le, one) in
-    counted loads (absorbed s x) all ∙ omega (arith, one)
+    counted loads (with_load s x) all ∙ omega (arith, one)
 
 -- the set's version is the number of loads
 pub version-fold : (loads : List LoadValue) → length loads ≤ 18446744073709551615 → (set_of loads).version

@@ -5,7 +5,7 @@ use Rattle.std.proofs.Common.{Bool, is_some, refl, sym, ap, ◌∙◌, arith}
 use Rattle.std.proofs.lemmas.List.{get_or_default, length-append, drop_more}
 use Rattle.std.proofs.lemmas.Option.{slice_get-get_or}
 use Rattle.live_set.specs.Loads.{LoadValue, is_for}
-use Rattle.live_set.specs.Slots.{Rises, IsAt, asked}
+use Rattle.live_set.specs.Slots.{Rises, IsAt, probe}
 use Rattle.live_set.specs.Placing.{IsPlaceFor}
 use Rattle.live_set.proofs.Slotting.{find_at}
 
@@ -57,13 +57,13 @@ module _ (domain locale : List ℕ) (run : List LoadValue) (i : ℕ) (rises : Ri
     p = is_for domain locale
 
     abbrev x : LoadValue
-    x = get_or run i (asked domain locale)
+    x = get_or run i (probe domain locale)
 
     found : find p run ≡ Some x
-    found = find_at run domain locale i x rises at (get_or_default run i (asked domain locale) x at.in_range)
+    found = find_at run domain locale i x rises at (get_or_default run i (probe domain locale) x at.in_range)
 
     read : slice_get run i ≡ find p run
-    read = slice_get-get_or run i (asked domain locale) at.in_range ∙ sym found
+    read = slice_get-get_or run i (probe domain locale) at.in_range ∙ sym found
 
     -- the place of a load of the first run
     pub place_first : (rest : List LoadValue) → find p (run ++ rest) ≡ find p run

@@ -13,8 +13,8 @@ use Rattle.std.proofs.lemmas.List.{append-nil, append_assoc, take-append-drop, g
 use Rattle.std.proofs.lemmas.List.Elements.{filter-append}
 use Rattle.std.proofs.lemmas.Map.Keys.{sorted_head, sorted_tail}
 use Rattle.live_set.specs.Loads.{LoadValue, is_for}
-use Rattle.live_set.specs.Slots.{compared, is_before, slotted, Rises, asked}
-use Rattle.live_set.specs.LoadRuns.{begins_by, begun}
+use Rattle.live_set.specs.Slots.{order_of, is_before, with_slot, Rises, probe}
+use Rattle.live_set.specs.LoadRuns.{begins_by, begun_count}
 use Rattle.live_set.proofs.Slotting.{slotted_rises}
 use Rattle.live_set.proofs.Order.{total, flipped, not_for, less_ne, greater_ne}
 
@@ -50,46 +50,46 @@ pub rises_front : (xs ys : List LoadValue) → Rises (xs ++ ys) → Rises xs
 unfolding IsStrictlySortedBy
 rises_front [] ys rises = tt
 rises_front (x ∷ xs) ys rises = (
-  all_front (λ y. compared x y ≡ Less) xs ys (sorted_head compared x (xs ++ ys) rises),
-  rises_front xs ys (sorted_tail compared x (xs ++ ys) rises),
+  all_front (λ y. order_of x y ≡ Less) xs ys (sorted_head order_of x (xs ++ ys) rises),
+  rises_front xs ys (sorted_tail order_of x (xs ++ ys) rises),
 )
 
 pub rises_back : (xs ys : List LoadValue) → Rises (xs ++ ys) → Rises ys
 rises_back [] ys rises = rises
-rises_back (x ∷ xs) ys rises = rises_back xs ys (sorted_tail compared x (xs ++ ys) rises)
+rises_back (x ∷ xs) ys rises = rises_back xs ys (sorted_tail order_of x (xs ++ ys) rises)
 
 -- each of the loads is before this one; each of them is after it
 abbrev AllBefore : LoadValue → List LoadValue → Type 0
-AllBefore x xs = AllByRecursion (λ l. compared l x ≡ Less) xs
+AllBefore x xs = AllByRecursion (λ l. order_of l x ≡ Less) xs
 
 abbrev AllBehind : LoadValue → List LoadValue → Type 0
-AllBehind x xs = AllByRecursion (λ l. compared l x ≡ Greater) xs
+AllBehind x xs = AllByRecursion (λ l. order_of l x ≡ Greater) xs
 
 -- what is before a load that isn't after x is before x
-before_by : (x y z : LoadValue) → compared y z ≡ Less → is_le (compared z x) ≡ true → compared y x ≡ Less
+before_by : (x y z : LoadValue) → order_of y z ≡ Less → is_le (order_of z x) ≡ true → order_of y x ≡ Less
 before_by x y z lt le =
-    elim (compared z x) as (λ o. compared z x ≡ o → is_le o ≡ true → compared y x ≡ Less) [
+    elim (order_of z x) as (λ o. order_of z x ≡ o → is_le o ≡ true → order_of y x ≡ Less) [
       | Less ↦ λ e _. total.trans y z x lt e
       | Equal ↦ λ e _. sym (alike_right total z x y e) ∙ lt
       | Greater ↦ λ e is. absurd (false≢true is)
     ] refl le
 
-all_before : (x y : LoadValue) (xs ys : List LoadValue) → Rises (xs ++ y ∷ ys) → is_le (compared y x) ≡ true
+all_before : (x y : LoadValue) (xs ys : List LoadValue) → Rises (xs ++ y ∷ ys) → is_le (order_of y x) ≡ true
     → AllBefore x xs
 all_before x y [] ys rises le = tt
 all_before x y (z ∷ zs) ys rises le =
-    let rest = sorted_head compared z (zs ++ y ∷ ys) rises in
-    let less : compared z y ≡ Less = (all_back (λ l. compared z l ≡ Less) zs (y ∷ ys) rest).0 in
-    (before_by x z y less le, all_before x y zs ys (sorted_tail compared z (zs ++ y ∷ ys) rises) le)
+    let rest = sorted_head order_of z (zs ++ y ∷ ys) rises in
+    let less : order_of z y ≡ Less = (all_back (λ l. order_of z l ≡ Less) zs (y ∷ ys) rest).0 in
+    (before_by x z y less le, all_before x y zs ys (sorted_tail order_of z (zs ++ y ∷ ys) rises) le)
 
-behind_by : (x y : LoadValue) (ys : List LoadValue) → compared y x ≡ Greater
-    → AllByRecursion (λ z. compared y z ≡ Less) ys → AllBehind x ys
+behind_by : (x y : LoadValue) (ys : List LoadValue) → order_of y x ≡ Greater
+    → AllByRecursion (λ z. order_of y z ≡ Less) ys → AllBehind x ys
 behind_by x y [] gt all = tt
 behind_by x y (z ∷ zs) gt all =
     (flipped x z Less (total.trans x y z (flipped y x Greater gt) all.0), behind_by x y zs gt all.1)
 
-all_behind : (x y : LoadValue) (ys : List LoadValue) → Rises (y ∷ ys) → compared y x ≡ Greater → AllBehind x (y ∷ ys)
-all_behind x y ys rises gt = (gt, behind_by x y ys gt (sorted_head compared y ys rises))
+all_behind : (x y : LoadValue) (ys : List LoadValue) → Rises (y ∷ ys) → order_of y x ≡ Greater → AllBehind x (y ∷ ys)
+all_behind x y ys rises gt = (gt, behind_by x y ys gt (sorted_head order_of y ys rises))
 
 -- ---- between loads that are before it and loads that are after it
 
@@ -119,7 +119,7 @@ none_behind x (z ∷ zs) all =
 
 -- a load is inserted between them as it would be on its own
 pub slotted_between : (x : LoadValue) (a r b : List LoadValue) → AllBefore x a → AllBehind x b
-    → slotted (a ++ (r ++ b)) x ≡ a ++ (slotted r x ++ b)
+    → with_slot (a ++ (r ++ b)) x ≡ a ++ (with_slot r x ++ b)
 slotted_between x a r b lower upper =
     let p = λ (l : LoadValue). is_before l x in
     let q = λ (l : LoadValue). is_before x l in
@@ -133,7 +133,7 @@ slotted_between x a r b lower upper =
     ∙ ap (λ t. a ++ t) (sym (append_assoc (filter p r) (x ∷ filter q r) b))
 
 find_past : (domain locale : List ℕ) (o : Ordering) (xs ys : List LoadValue) → (o ≡ Equal → ⊥)
-    → AllByRecursion (λ l. compared l (asked domain locale) ≡ o) xs
+    → AllByRecursion (λ l. order_of l (probe domain locale) ≡ o) xs
     → find (is_for domain locale) (xs ++ ys) ≡ find (is_for domain locale) ys
 find_past domain locale o [] ys ne all = refl
 find_past domain locale o (z ∷ zs) ys ne all =
@@ -145,8 +145,8 @@ find_front p [] ys none = none
 find_front p (z ∷ zs) ys none = ap (cond (p z) (Some z)) (find_front p zs ys none)
 
 -- a load is found between them as it would be on its own
-pub find_between : (domain locale : List ℕ) (a r b : List LoadValue) → AllBefore (asked domain locale) a
-    → AllBehind (asked domain locale) b
+pub find_between : (domain locale : List ℕ) (a r b : List LoadValue) → AllBefore (probe domain locale) a
+    → AllBehind (probe domain locale) b
     → find (is_for domain locale) (a ++ (r ++ b)) ≡ find (is_for domain locale) r
 find_between domain locale a r b lower upper =
     let p = is_for domain locale in
@@ -202,7 +202,7 @@ module _ {R : Type 0} (of : R → List LoadValue) where
 
   module _ (domain locale : List ℕ) where
     abbrev x : LoadValue
-    x = asked domain locale
+    x = probe domain locale
 
     abbrev begins : R → Bool
     begins r = begins_by domain locale (of r)
@@ -216,7 +216,7 @@ module _ {R : Type 0} (of : R → List LoadValue) where
     run_behind : (ls rest : List LoadValue) → 0 < length ls → Rises (ls ++ rest) → begins_by domain locale ls ≡ false
         → AllBehind x (ls ++ rest)
     run_behind [] rest some rises e = absurd (omega arith)
-    run_behind (l ∷ ls) rest some rises e = all_behind x l (ls ++ rest) rises (behind_greater (compared l x) e)
+    run_behind (l ∷ ls) rest some rises e = all_behind x l (ls ++ rest) rises (behind_greater (order_of l x) e)
 
     begins_behind : (ls rest : List LoadValue) → 0 < length ls → AllBehind x (ls ++ rest)
         → begins_by domain locale ls ≡ false
@@ -228,17 +228,17 @@ module _ {R : Type 0} (of : R → List LoadValue) where
     none_begins [] i d has all lt = absurd (omega arith)
     none_begins (r ∷ rs) zero d has all lt = begins_behind (of r) (joined rs) has.0 all
     none_begins (r ∷ rs) (suc i) d has all lt = none_begins rs i d has.1
-        (all_back (λ l. compared l x ≡ Greater) (of r) (joined rs) all) (omega arith)
+        (all_back (λ l. order_of l x ≡ Greater) (of r) (joined rs) all) (omega arith)
 
     pub partitioned : (runs : List R) → HasEach runs → Rises (joined runs) → IsPartitionedBy begins runs
     partitioned [] has rises i j d le lt is = absurd (omega arith)
     partitioned (r ∷ rs) has rises zero zero d le lt is = is
     partitioned (r ∷ rs) has rises zero (suc j) d le lt is = elim (cases_Bool (begins r)) [
-      | inl begun ↦ begun
+      | inl begun_count ↦ begun_count
       | inr not ↦
           let all = run_behind (of r) (joined rs) has.0 rises not in
           absurd (false≢true (sym (none_begins rs j d has.1
-          (all_back (λ l. compared l x ≡ Greater) (of r) (joined rs) all) (omega arith)) ∙ is))
+          (all_back (λ l. order_of l x ≡ Greater) (of r) (joined rs) all) (omega arith)) ∙ is))
     ]
     partitioned (r ∷ rs) has rises (suc i) zero d le lt is = absurd (omega arith)
     partitioned (r ∷ rs) has rises (suc i) (suc j) d le lt is = partitioned rs has.1
@@ -272,7 +272,7 @@ module _ {R : Type 0} (of : R → List LoadValue) where
         (subst Rises whole rises) is
 
 -- the runs up to the one before the n-th
-pub begun_by : (n : ℕ) (o : Option ℕ) → SomeIff o (1 ≤ n) (n - 1) → begun o ≡ n
+pub begun_by : (n : ℕ) (o : Option ℕ) → SomeIff o (1 ≤ n) (n - 1) → begun_count o ≡ n
 begun_by zero None is = refl
 begun_by (suc n) None is = absurd (is (omega arith))
 begun_by n (Some at) is = omega (arith, is.0, is.1)
@@ -289,7 +289,7 @@ above of runs i = flat_map of (drop (suc i) runs)
 -- the runs that are begun by the pair end with this one
 abbrev pub IsParted : {R : Type 0} → (R → List LoadValue) → List ℕ → List ℕ → List R → Option ℕ → Type 0
 IsParted of domain locale runs o = IsPartitionedBy (λ r. begins_by domain locale (of r)) runs → IsPartitionPoint
-    (λ r. begins_by domain locale (of r) ≡ true) (λ r. begins_by domain locale (of r) ≡ false) runs (begun o)
+    (λ r. begins_by domain locale (of r) ≡ true) (λ r. begins_by domain locale (of r) ≡ false) runs (begun_count o)
 
 -- IsParted carries over to equal names and runs
 pub parted_for : {R : Type 0} (of : R → List LoadValue) (d l : List ℕ) (seen : List R) (o : Option ℕ) (load : LoadValue)
@@ -306,11 +306,11 @@ within {R = R} i seen runs e lt = subst (λ (rs : List R). i < length rs) e lt
 module _ {R : Type 0} (of : R → List LoadValue) (domain locale : List ℕ) (first : List LoadValue) (runs : List R)
     (rises : Rises (first ++ flat_map of runs)) (has : HasEach of runs) where
   point : (o : Option ℕ) → IsParted of domain locale runs o → IsPartitionPoint
-      (λ r. begins_by domain locale (of r) ≡ true) (λ r. begins_by domain locale (of r) ≡ false) runs (begun o)
+      (λ r. begins_by domain locale (of r) ≡ true) (λ r. begins_by domain locale (of r) ≡ false) runs (begun_count o)
   point o parted = parted (partitioned of domain locale runs has (rises_back first (flat_map of runs) rises))
 
   -- about the first run
-  pub behind_first : IsParted of domain locale runs None → AllBehind (asked domain locale) (flat_map of runs)
+  pub behind_first : IsParted of domain locale runs None → AllBehind (probe domain locale) (flat_map of runs)
   behind_first parted = behind_from of domain locale runs 0 has (rises_back first (flat_map of runs) rises)
       (λ k d le lt. (point None parted).1 k d (omega arith) lt)
 
@@ -329,11 +329,11 @@ module _ {R : Type 0} (of : R → List LoadValue) (domain locale : List ℕ) (fi
     abbrev upper : List LoadValue
     upper = above of runs i
 
-    pub before_later : AllBefore (asked domain locale) lower
+    pub before_later : AllBefore (probe domain locale) lower
     before_later = before_run of domain locale first runs i d lt rises
         ((point (Some i) parted).0 i d (omega arith) (omega arith))
 
-    pub behind_later : AllBehind (asked domain locale) upper
+    pub behind_later : AllBehind (probe domain locale) upper
     behind_later = behind_from of domain locale runs (suc i) has (rises_back first (flat_map of runs) rises)
         (λ k d le inside. (point (Some i) parted).1 k d (omega (arith, le)) inside)
 
@@ -356,12 +356,12 @@ some_between (z ∷ zs) ys x = omega arith
 
 -- the new loads if the result is Ok, and the old ones otherwise
 abbrev pub IsPut : {A E : Type 0} → Result A E → LoadValue → (old new : List LoadValue) → Type 0
-IsPut r x old new = MatchResult r (λ _. new ≡ slotted old x) (λ _. new ≡ old)
+IsPut r x old new = MatchResult r (λ _. new ≡ with_slot old x) (λ _. new ≡ old)
 
 module _ {R : Type 0} (of : R → List LoadValue) (x : LoadValue) (first : List LoadValue) (runs : List R)
     (rises : Rises (first ++ flat_map of runs)) (has : HasEach of runs) where
-  slotted_first : IsParted of x.domain x.locale runs None → slotted first x ++ flat_map of runs
-      ≡ slotted (first ++ flat_map of runs) x
+  slotted_first : IsParted of x.domain x.locale runs None → with_slot first x ++ flat_map of runs
+      ≡ with_slot (first ++ flat_map of runs) x
   slotted_first parted = sym (slotted_between x [] first (flat_map of runs) tt
       (behind_first of x.domain x.locale first runs rises has parted))
 
@@ -371,7 +371,7 @@ module _ {R : Type 0} (of : R → List LoadValue) (x : LoadValue) (first : List 
         is : IsPut r x (first ++ flat_map of runs) (new ++ flat_map of runs);
       }
   put_first parted new (Ok a) e =
-      let is : new ++ flat_map of runs ≡ slotted (first ++ flat_map of runs) x = ap (λ l. l ++ flat_map of runs) e
+      let is : new ++ flat_map of runs ≡ with_slot (first ++ flat_map of runs) x = ap (λ l. l ++ flat_map of runs) e
       ∙ slotted_first parted in
       record { rises = subst Rises (sym is) (slotted_rises x (first ++ flat_map of runs) rises); is = is }
   put_first parted new (Err a) e =
@@ -386,11 +386,11 @@ module _ {R : Type 0} (of : R → List LoadValue) (x : LoadValue) (first : List 
     split : first ++ flat_map of runs ≡ below of first runs i ++ (of (get_or runs i d) ++ above of runs i)
     split = about of x.domain x.locale first runs rises has i lt parted d
 
-    slotted_later : below of first runs i ++ (slotted (of (get_or runs i d)) x ++ above of runs i)
-        ≡ slotted (first ++ flat_map of runs) x
+    slotted_later : below of first runs i ++ (with_slot (of (get_or runs i d)) x ++ above of runs i)
+        ≡ with_slot (first ++ flat_map of runs) x
     slotted_later = sym (slotted_between x (below of first runs i) (of (get_or runs i d)) (above of runs i)
         (before_later of x.domain x.locale first runs rises has i lt parted d)
-        (behind_later of x.domain x.locale first runs rises has i lt parted d)) ∙ ap (λ l. slotted l x) (sym split)
+        (behind_later of x.domain x.locale first runs rises has i lt parted d)) ∙ ap (λ l. with_slot l x) (sym split)
 
     put_run : {A E : Type 0} → (new : R) (r : Result A E) → IsPut r x (of (get_or runs i d)) (of new)
         → record {
@@ -399,7 +399,7 @@ module _ {R : Type 0} (of : R → List LoadValue) (x : LoadValue) (first : List 
           is : IsPut r x (first ++ flat_map of runs) (first ++ flat_map of (set runs i new));
         }
     put_run new (Ok a) e =
-        let is : first ++ flat_map of (set runs i new) ≡ slotted (first ++ flat_map of runs) x = written new
+        let is : first ++ flat_map of (set runs i new) ≡ with_slot (first ++ flat_map of runs) x = written new
         ∙ ap (λ l. below of first runs i ++ (l ++ above of runs i)) e ∙ slotted_later in
         let some : 0 < length (of new) = subst (λ l. 0 < length l) (sym e)
         (some_between (filter (λ l. is_before l x) (of (get_or runs i d)))

@@ -5,7 +5,7 @@ use Rattle.std.specs.Prelude.{fold as fold_list}
 use Rattle.std.specs.List.{find}
 use Rattle.catalogue.specs.Entry.{Entry}
 use Rattle.live_set.specs.Loads.{LoadValue, is_for, map_or_empty}
-use Rattle.live_set.specs.Slots.{slotted}
+use Rattle.live_set.specs.Slots.{with_slot}
 
 -- the number of loads absorbed, and the loads that are still in use
 pub record SetValue : Type 0 where
@@ -30,9 +30,9 @@ pub record HasAbsorbed (load : LoadValue) (old new : SetValue) : Type 0 where
 -- ---- for crates that keep two copies of a set equal: the one value that a set has after its loads
 
 -- one more load
-abbrev pub absorbed : SetValue → LoadValue → SetValue
-absorbed s load = record { version = min (s.version + 1) 18446744073709551615; held = slotted s.held load }
+abbrev pub with_load : SetValue → LoadValue → SetValue
+with_load s load = record { version = min (s.version + 1) 18446744073709551615; held = with_slot s.held load }
 
 -- the loads of a list, absorbed one after another
 abbrev pub fold : List LoadValue → SetValue
-fold loads = fold_list absorbed no_loads loads
+fold loads = fold_list with_load no_loads loads

@@ -2,7 +2,7 @@
 ghost use Rattle.std.specs.Prelude.{◌≡◌, IfOk};
 ghost use Rattle.std.specs.Arc.{arc_value};
 ghost use Rattle.live_set.specs.Names.{IsName};
-ghost use Rattle.live_set.specs.Slots.{compared, asked};
+ghost use Rattle.live_set.specs.Slots.{order_of, probe};
 
 use crate::Name;
 use byte_text::TextKey;
@@ -79,7 +79,7 @@ impl Load {
 
     /// Compares by locale first, since locales differ most, and then by domain.
     pub(crate) fn compare(&self, domain: &TextKey<'_>, locale: &TextKey<'_>) -> Ordering
-        ensures { result ≡ compared self.now (asked domain.now locale.now) }
+        ensures { result ≡ order_of self.now (probe domain.now locale.now) }
     {
         match self.locale().compare(locale) {
             Ordering::Equal => self.domain().compare(domain),

@@ -4,8 +4,8 @@ ghost use Rattle.std.specs.Prelude.{MatchResult, MatchOption, None, IfOk, IfErr,
 ghost use Rattle.std.specs.Prelude.{◌≤◌, take, drop};
 ghost use Rattle.std.specs.List.Sorted.{IsPartitionedBy, IsPartitionPoint};
 ghost use Rattle.live_set.specs.Loads.{is_for};
-ghost use Rattle.live_set.specs.Slots.{slotted, Rises, IsAt, IsGapFor};
-ghost use Rattle.live_set.specs.LoadRuns.{begins_by, begun, loads_in};
+ghost use Rattle.live_set.specs.Slots.{with_slot, Rises, IsAt, IsGapFor};
+ghost use Rattle.live_set.specs.LoadRuns.{begins_by, begun_count, loads_in};
 ghost use Rattle.live_set.specs.Placing.{IsPlaceFor};
 
 use crate::Load;
@@ -57,7 +57,7 @@ fn run_for(later: &[Arc<Vec<Load>>], domain: &TextKey<'_>, locale: &TextKey<'_>)
     ensures bound { IfSome result (λ at. at < length later.now) }
     ensures parted { IsPartitionedBy (λ run. begins_by domain.now locale.now (loads_in run)) later.now
         → IsPartitionPoint (λ run. begins_by domain.now locale.now (loads_in run) ≡ true)
-        (λ run. begins_by domain.now locale.now (loads_in run) ≡ false) later.now (begun result) }
+        (λ run. begins_by domain.now locale.now (loads_in run) ≡ false) later.now (begun_count result) }
 {
     later
         .partition_point(|run| begins_by(run, domain, locale))
@@ -134,7 +134,7 @@ fn load_at(runs: &[Arc<Vec<Load>>], place: usize) -> Option<&Load>
 /// and keeps its own two names: whoever reads them in another set has their cache lines.
 fn put_in(run: &mut Vec<Load>, load: &Load) -> Result<(), AllocError>
     requires { Rises run.old.items }
-    ensures { MatchResult result (λ _. run.new.items ≡ slotted run.old.items load.now)
+    ensures { MatchResult result (λ _. run.new.items ≡ with_slot run.old.items load.now)
         (λ _. run.new.items ≡ run.old.items) }
 {
     match slot(run, &load.domain(), &load.locale()) {
@@ -173,7 +173,7 @@ fn unshare(run: &mut Arc<Vec<Load>>) -> Result<(), AllocError>
 /// Like `put_in`, for a run that others may have: they keep it as it is.
 fn put_in_shared(run: &mut Arc<Vec<Load>>, load: &Load) -> Result<(), AllocError>
     requires { Rises (loads_in run.old) }
-    ensures { MatchResult result (λ _. loads_in run.new ≡ slotted (loads_in run.old) load.now)
+    ensures { MatchResult result (λ _. loads_in run.new ≡ with_slot (loads_in run.old) load.now)
         (λ _. loads_in run.new ≡ loads_in run.old) }
 {
     unshare(run)?;
@@ -287,7 +287,7 @@ impl LoadRuns {
     /// Inserts a copy of a load, replacing the one for its domain and locale if there is one. If memory runs out, it
     /// fails and the loads are unchanged.
     pub(crate) fn put(&mut self, load: &Load) -> Result<(), AllocError>
-        ensures { MatchResult result (λ _. self.new ≡ slotted self.old load.now) (λ _. self.new ≡ self.old) }
+        ensures { MatchResult result (λ _. self.new ≡ with_slot self.old load.now) (λ _. self.new ≡ self.old) }
     {
         self.make_room(load)?;
         match run_for(&self.later, &load.domain(), &load.locale()) {

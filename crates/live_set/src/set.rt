@@ -3,7 +3,7 @@ ghost use Rattle.std.specs.Prelude.{◌≡◌, IfOk, IfSome, OnOk, OnErr, find, 
 ghost use Rattle.live_set.specs.Loads.{is_for};
 ghost use Rattle.live_set.specs.Names.{IsName};
 ghost use Rattle.live_set.specs.Placing.{IsPlaceFor};
-ghost use Rattle.live_set.specs.Sets.{no_loads, map_in, HasAbsorbed, absorbed};
+ghost use Rattle.live_set.specs.Sets.{no_loads, map_in, HasAbsorbed, with_load};
 ghost use Rattle.catalogue.specs.Entry.{key_bytes};
 ghost use Rattle.catalogue.specs.Map.{entry_at};
 ghost use Rattle.catalogue.specs.Value.{IsTranslatedWithNul};
@@ -85,7 +85,7 @@ impl CatalogueSet {
         ensures err { OnErr result (self.new ≡ self.old) }
 
         // The result depends only on the old value and the load, so two copies stay equal.
-        ensures value { OnOk result (self.new ≡ absorbed self.old load.now) }
+        ensures value { OnOk result (self.new ≡ with_load self.old load.now) }
     {
         self.held.put(load)?;
         self.version = self.version.saturating_add(1);

@@ -9,7 +9,7 @@ use Rattle.atomic_table.proofs.Lists.{at_set, at_snoc}
 use Rattle.logbook.specs.Pages.{Book}
 use Rattle.live_versions.specs.declared.rule.Shown.{Shown}
 use Rattle.live_set.specs.Loads.{LoadValue}
-use Rattle.live_set.specs.Sets.{absorbed, no_loads}
+use Rattle.live_set.specs.Sets.{with_load, no_loads}
 use Rattle.live_set.specs.Sets.{fold as fold_of}
 use Rattle.live_loads.specs.Seen.{SeenValue}
 use Rattle.live_versions.specs.SeatViews.{ViewValue, fresh}
@@ -92,7 +92,8 @@ merges seat v other w x views h at apart there =
 
 -- a publish adds a batch
 pub publishes : (seat : ℕ) (v : ViewValue) (x y : Shown) (loads : List LoadValue)
-    → y.set ≡ fold absorbed x.set loads → y.seen ≡ record { book = x.seen.book; batches = x.seen.batches ++ loads ∷ [] }
+    → y.set ≡ fold with_load x.set loads
+    → y.seen ≡ record { book = x.seen.book; batches = x.seen.batches ++ loads ∷ [] }
     → 0 < length loads → version_of y.seen.batches < 2 ^ 64
     → TurnsAt holds seat v x y (λ v x y w. w ≡ record { books = y.seen.book ∷ []; batches = y.seen.batches })
 publishes seat v x y loads set_is seen_is any room views h at =
@@ -111,7 +112,7 @@ publishes seat v x y loads set_is seen_is any room views h at =
     ∙ (joined-append x.seen.batches (loads ∷ []) ∙ ap (λ l. joined x.seen.batches ++ l) (append-nil loads)) in
     let full : NoneEmpty y.seen.batches = subst NoneEmpty (sym grown) (full_add x.seen.batches loads h.full any) in
     let folded : y.set ≡ fold_of (joined y.seen.batches) = set_is
-    ∙ (ap (λ s. fold absorbed s loads) h.folded ∙ (sym (fold-append_of (joined x.seen.batches) loads)
+    ∙ (ap (λ s. fold with_load s loads) h.folded ∙ (sym (fold-append_of (joined x.seen.batches) loads)
     ∙ ap fold_of (sym all))) in (
       w,
       record {

@@ -21,9 +21,9 @@ abbrev pub AddsBatch : List LoadValue → Step (List LoadValue) → View (List L
 AddsBatch batch s v found w = found ≡ s.old → w.0 ≡ v.0 ++ batch ∷ []
 
 -- what was seen and one more batch, if there is one
-abbrev pub claimed : SeenValue → Option (List LoadValue) → SeenValue
-claimed s (Some batch) = record { book = s.book; batches = s.batches ++ batch ∷ [] }
-claimed s None = s
+abbrev pub with_claim : SeenValue → Option (List LoadValue) → SeenValue
+with_claim s (Some batch) = record { book = s.book; batches = s.batches ++ batch ∷ [] }
+with_claim s None = s
 
 -- the token, if there is one, is exactly what is claimed
 abbrev pub IsTokenOf : Option SeenValue → SeenValue → Type 0

@@ -1,10 +1,10 @@
--- What an entry of a reader shows, and which reader it borrows.
+-- What a visit of a reader shows, and which reader it borrows.
 use Rattle.std.specs.Prelude.{ℕ}
 use Rattle.live_versions.specs.declared.pinned.Pinned.{Pinned}
 
 -- the batches that were published when the reader entered
-abbrev pub entry_of : {G : Type 0} → Pinned G → G
-entry_of pinned = pinned.entry
+abbrev pub visit_of : {G : Type 0} → Pinned G → G
+visit_of pinned = pinned.visit
 
 -- the name of the borrow of its reader
 abbrev pub home_name : {G : Type 0} → Pinned G → ℕ

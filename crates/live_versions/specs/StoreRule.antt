@@ -3,7 +3,7 @@ use Rattle.std.specs.Prelude.{◌≡◌, ⊤, ℕ, ◌^◌, ◌<◌, List, [], �
 use mathlib.Core.Option.{some}
 use lib.ListN.{get_elem?}
 use Rattle.logbook.specs.Pages.{Book}
-use Rattle.live_set.specs.Sets.{SetValue, absorbed, fold}
+use Rattle.live_set.specs.Sets.{SetValue, with_load, fold}
 use Rattle.live_versions.specs.declared.rule.Common.{Common}
 use Rattle.live_versions.specs.declared.rule.Change.{Change}
 use Rattle.live_versions.specs.declared.rule.Change.TheVariants.{Load, Seal}
@@ -13,7 +13,7 @@ use Rattle.live_loads.specs.Batches.{joined, version_of, StartsWith, NoneEmpty}
 
 -- what a change does to a copy
 abbrev pub applied_to : Common → Change → Common
-applied_to s (Load load) = record { set = absorbed s.set load; seen = s.seen }
+applied_to s (Load load) = record { set = with_load s.set load; seen = s.seen }
 applied_to s (Seal seen) = record { set = s.set; seen = seen }
 
 -- each book that is known is this one

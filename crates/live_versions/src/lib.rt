@@ -64,7 +64,7 @@ pub use fault::{Ahead, AskFault, Closed, OpenFault, PublishFault};
 pub use law::versions_never_fall;
 pub use live_loads::{StoreFault, mo_number, one_answer, po_number};
 pub use notice::Notice;
-pub use pinned::{Entry, Pinned};
+pub use pinned::{Pinned, Visit};
 pub use publisher::Publisher;
 pub use reader::Lookups;
 pub use store::open_store;

@@ -6,7 +6,7 @@ ghost use Rattle.live_set.specs.Asks.{Plain, Context, Number, ContextNumber};
 ghost use Rattle.live_set.specs.Loads.{map_of};
 ghost use Rattle.live_set.specs.Sets.{fold};
 ghost use Rattle.live_loads.specs.Batches.{joined, version_of};
-ghost use Rattle.live_versions.specs.Entering.{entry_of};
+ghost use Rattle.live_versions.specs.Entering.{visit_of};
 
 use crate::Version;
 use crate::reader::{Lookups, StoreReader};
@@ -20,12 +20,12 @@ use std::marker::Model;
 pub(crate) type StoreReading = Reading<Shown, View, Versions>;
 
 /// The copy that a reader has entered. Contracts see it as the batches that were published when it entered.
-pub struct Entry {
+pub struct Visit {
     reading: StoreReading,
     seen: Seen,
 }
 
-impl Model for Entry {
+impl Model for Visit {
     ghost use Rattle.std.specs.Prelude.{◌≡◌, [], ◌∷◌};
     ghost use Rattle.left_right.specs.Sides.{view as known};
     ghost use Rattle.live_set.specs.Sets.{fold};
@@ -40,56 +40,56 @@ impl Model for Entry {
         × ((known e.reading.place).books ≡ e.seen.book ∷ []) × ((known e.reading.place).batches ≡ e.seen.batches) };
 }
 
-impl Entry {
-    pub(crate) fn new(reading: StoreReading, seen: Seen) -> Entry
+impl Visit {
+    pub(crate) fn new(reading: StoreReading, seen: Seen) -> Visit
         requires { (reading.part.value.set ≡ fold (joined seen.batches))
             × ((view reading.place).books ≡ seen.book ∷ []) × ((view reading.place).batches ≡ seen.batches) }
         ensures { result ≡ seen }
     {
-        Entry { reading, seen }
+        Visit { reading, seen }
     }
 
     fn leave(self) -> (StoreReader, Seen)
         ensures { ((view result.0.place).books ≡ self.book ∷ []) × ((view result.0.place).batches ≡ self.batches)
             × (result.1 ≡ self) }
     {
-        let Entry { reading, seen } = self;
+        let Visit { reading, seen } = self;
         (reading.leave(), seen)
     }
 }
 
-/// An entry of a reader: it shows what was published when the reader entered, whatever is published meanwhile. It
+/// A visit of a reader: it shows what was published when the reader entered, whatever is published meanwhile. It
 /// borrows its reader. It isn't `Drop`: end it with `leave`. None of its methods waits, and only `look_all` allocates.
-pub struct Pinned<'a, G = Entry> {
+pub struct Pinned<'a, G = Visit> {
     pub(crate) home: &'a mut Lookups,
-    pub(crate) entry: G,
+    pub(crate) visit: G,
 }
 
 impl Pinned<'_> {
     /// The number of loads published when the reader entered.
     pub fn version(&self) -> Version
-        ensures { result ≡ version_of (entry_of self.now).batches }
+        ensures { result ≡ version_of (visit_of self.now).batches }
     {
-        let entry = &self.entry;
-        entry.seen.version()
+        let visit = &self.visit;
+        visit.seen.version()
     }
 
     /// The answer to a query (`live_set::CatalogueSet::look`).
     #[tactic(auto, using(live_loads::proofs::Looking::searched))]
     pub fn look<'a>(&'a self, query: &'a Query) -> &'a str
-        ensures { IsAnswer (joined (entry_of self.now).batches) query.now result.now }
+        ensures { IsAnswer (joined (visit_of self.now).batches) query.now result.now }
     {
         self.set().look(query)
     }
 
-    /// The answers to queries, in their order, all of the entry's version (`live_set::CatalogueSet::look_all`). The
+    /// The answers to queries, in their order, all of the visit's version (`live_set::CatalogueSet::look_all`). The
     /// only error is a failed allocation.
     pub fn look_all<'a>(
         &'a self,
         alloc: Global,
         queries: &'a [Query],
     ) -> Result<Vec<&'a str>, AllocError>
-        ensures { IfOk result (λ answers. AreAnswers (joined (entry_of self.now).batches) queries.now answers.items) }
+        ensures { IfOk result (λ answers. AreAnswers (joined (visit_of self.now).batches) queries.now answers.items) }
     {
         self.set().look_all(alloc, queries)
     }
@@ -98,7 +98,7 @@ impl Pinned<'_> {
     /// (`live_set::Query`), or the msgid if none has it.
     #[tactic(auto, using(live_loads::proofs::Looking::searched))]
     pub fn gettext<'a>(&'a self, domain: &str, languages: &str, id: &'a str) -> &'a str
-        ensures { IsAnswer (joined (entry_of self.now).batches) (query_of domain.now languages.now (Plain id.now))
+        ensures { IsAnswer (joined (visit_of self.now).batches) (query_of domain.now languages.now (Plain id.now))
             result.now }
     {
         self.set().gettext(domain, languages, id)
@@ -113,7 +113,7 @@ impl Pinned<'_> {
         context: &str,
         id: &'a str,
     ) -> &'a str
-        ensures { IsAnswer (joined (entry_of self.now).batches)
+        ensures { IsAnswer (joined (visit_of self.now).batches)
             (query_of domain.now languages.now (Context context.now id.now)) result.now }
     {
         self.set().pgettext(domain, languages, context, id)
@@ -130,7 +130,7 @@ impl Pinned<'_> {
         plural: &'a str,
         n: u64,
     ) -> &'a str
-        ensures { IsAnswer (joined (entry_of self.now).batches)
+        ensures { IsAnswer (joined (visit_of self.now).batches)
             (query_of domain.now languages.now (Number id.now plural.now n)) result.now }
     {
         self.set().ngettext(domain, languages, id, plural, n)
@@ -147,7 +147,7 @@ impl Pinned<'_> {
         plural: &'a str,
         n: u64,
     ) -> &'a str
-        ensures { IsAnswer (joined (entry_of self.now).batches)
+        ensures { IsAnswer (joined (visit_of self.now).batches)
             (query_of domain.now languages.now (ContextNumber context.now id.now plural.now n)) result.now }
     {
         self.set()
@@ -155,27 +155,27 @@ impl Pinned<'_> {
     }
 
     /// The catalogues that a list of languages names in a domain, in order (`live_set::Languages`), for more than one
-    /// look-up in the same languages. All of them are answered in the entry's version.
+    /// look-up in the same languages. All of them are answered in the visit's version.
     pub fn languages<'a>(&'a self, domain: &'a str, languages: &'a str) -> Languages<'a>
-        ensures { result ≡ maps_named (map_of (joined (entry_of self.now).batches)) domain.now languages.now }
+        ensures { result ≡ maps_named (map_of (joined (visit_of self.now).batches)) domain.now languages.now }
     {
         self.set().languages(domain, languages)
     }
 
-    /// The set that the entry looks up in.
+    /// The set that the visit looks up in.
     fn set(&self) -> &CatalogueSet
-        ensures { result.now ≡ fold (joined (entry_of self.now).batches) }
+        ensures { result.now ≡ fold (joined (visit_of self.now).batches) }
     {
-        let entry = &self.entry;
-        &entry.reading.get().set
+        let visit = &self.visit;
+        &visit.reading.get().set
     }
 
-    /// Ends the entry and gives its reader back. The reader has then seen the entry's batches.
+    /// Ends the visit and gives its reader back. The reader has then seen the visit's batches.
     pub fn leave(self)
-        ensures { self.exit.0.now ≡ entry_of self.entry }
+        ensures { self.exit.0.now ≡ visit_of self.entry }
     {
-        let Pinned { home, entry } = self;
-        let (reader, seen) = entry.leave();
+        let Pinned { home, visit } = self;
+        let (reader, seen) = visit.leave();
         home.come_home(reader, seen);
     }
 }

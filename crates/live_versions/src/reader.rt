@@ -6,13 +6,13 @@ ghost use Rattle.left_right.specs.Sides.{view};
 ghost use Rattle.live_set.specs.Asks.{IsAnswer};
 ghost use Rattle.live_loads.specs.Batches.{joined, version_of, StartsWith};
 ghost use Rattle.live_versions.specs.AnswerRoom.{IsLonger};
-ghost use Rattle.live_versions.specs.Entering.{entry_of, home_name};
+ghost use Rattle.live_versions.specs.Entering.{visit_of, home_name};
 ghost use Rattle.live_versions.specs.contracts.reader.Lookups.{the_row};
 
 use crate::Version;
 use crate::fault::{Ahead, AskFault, Closed};
 use crate::notice::Notice;
-use crate::pinned::{Entry, Pinned};
+use crate::pinned::{Pinned, Visit};
 use crate::rule::{Entered, Shown, Versions, View};
 use crate::seen::Seen;
 use left_right::reader::Reader;
@@ -57,7 +57,7 @@ impl Lookups {
         }
     }
 
-    /// Takes the reader back from an entry that has been left.
+    /// Takes the reader back from a visit that has ended.
     pub(crate) fn come_home(&mut self, reader: StoreReader, seen: Seen)
         requires { ((view reader.place).books ≡ seen.book ∷ []) × ((view reader.place).batches ≡ seen.batches) }
         ensures { self.new ≡ seen }
@@ -74,15 +74,15 @@ impl Lookups {
         self.seen.version()
     }
 
-    /// Enters what is published now. It neither waits nor allocates, and the entry lasts until it is left.
+    /// Enters what is published now. It neither waits nor allocates, and the visit lasts until the reader leaves.
     ///
-    /// The entry's batches begin with all that this reader has seen. Returns `Closed`, and leaves the reader as it was,
+    /// The visit's batches begin with all that this reader has seen. Returns `Closed`, and leaves the reader as it was,
     /// if the store is closed because its publisher has ended; no contract says when that is.
     pub fn enter(&mut self) -> Result<Pinned<'_>, Closed>
         ensures* stays { sem 𝓛 (RestsIfErr the_row self.entry home_name result (λ n. n ≡ self.old)) }
         ensures home { IfOk result (λ p. home_name p ≡ self.entry.ghost_name) }
-        ensures later { IfOk result (λ p. StartsWith (entry_of p).batches self.old.batches) }
-        ensures book { IfOk result (λ p. (entry_of p).book ≡ self.old.book) }
+        ensures later { IfOk result (λ p. StartsWith (visit_of p).batches self.old.batches) }
+        ensures book { IfOk result (λ p. (visit_of p).book ≡ self.old.book) }
     {
         let Some(reader) = self.reader.take() else {
             return Err(Closed);
@@ -100,8 +100,8 @@ impl Lookups {
                     self.reader = Some(reading.leave());
                     return Err(Closed);
                 }
-                let entry = Entry::new(reading, seen);
-                Ok(Pinned { home: self, entry })
+                let visit = Visit::new(reading, seen);
+                Ok(Pinned { home: self, visit })
             }
             Err(reader) => {
                 self.reader = Some(reader);
@@ -110,7 +110,7 @@ impl Lookups {
         }
     }
 
-    /// Enters once, and returns the entry's version with a copy of the query's answer.
+    /// Enters once, and returns the visit's version with a copy of the query's answer.
     ///
     /// `Closed` leaves the reader as it was. `Memory` is returned only if the answer isn't empty; the reader may have
     /// entered all the same.
@@ -129,7 +129,7 @@ impl Lookups {
         Ok((version, text))
     }
 
-    /// Enters once, returns the entry's version, and replaces `text` by the query's answer. A caller that keeps one
+    /// Enters once, returns the visit's version, and replaces `text` by the query's answer. A caller that keeps one
     /// `text` for many queries soon stops allocating: its room is used again, and only a longer answer needs more.
     ///
     /// `Closed` leaves the reader and the text as they were. After `Memory` the text is empty, and the reader may have

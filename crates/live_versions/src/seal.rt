@@ -197,13 +197,13 @@ pub(crate) struct Cover {
 
 impl Model for Cover {
     ghost use Rattle.live_loads.specs.Seen.{SeenValue};
-    ghost use Rattle.live_versions.specs.Book.{claimed, IsTokenOf};
+    ghost use Rattle.live_versions.specs.Book.{with_claim, IsTokenOf};
 
     ghost Value = { SeenValue };
 
-    ghost view = { λ c. claimed c.base c.bundle };
+    ghost view = { λ c. with_claim c.base c.bundle };
 
-    ghost invariant = { λ c. IsTokenOf c.token (claimed c.base c.bundle) };
+    ghost invariant = { λ c. IsTokenOf c.token (with_claim c.base c.bundle) };
 }
 
 impl Cover {

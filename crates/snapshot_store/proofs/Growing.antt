@@ -2,7 +2,7 @@
 use Rattle.std.proofs.Common.{◌≡◌, ◌≢◌, ◌+◌, ◌∷◌, ◌++◌, [], List, length, fold, sym, refl, ap, ◌∙◌}
 use Rattle.std.proofs.lemmas.List.{append-nil}
 use Rattle.live_set.specs.Loads.{LoadValue}
-use Rattle.live_set.specs.Sets.{SetValue, absorbed}
+use Rattle.live_set.specs.Sets.{SetValue, with_load}
 use Rattle.live_set.specs.Sets.{fold as fold_of}
 use Rattle.live_set.proofs.Folding.{map_in-fold}
 use Rattle.live_loads.specs.Batches.{joined, version_of, published}
@@ -14,7 +14,7 @@ pub joined_add : (v : List (List LoadValue)) (batch : List LoadValue) → joined
 joined_add v batch = joined-append v (batch ∷ []) ∙ ap (λ l. joined v ++ l) (append-nil batch)
 
 -- the set after one more batch
-pub set_add : (v : List (List LoadValue)) (batch : List LoadValue) → fold absorbed (fold_of (joined v)) batch
+pub set_add : (v : List (List LoadValue)) (batch : List LoadValue) → fold with_load (fold_of (joined v)) batch
     ≡ fold_of (joined (v ++ batch ∷ []))
 set_add v batch = sym (fold-append_of (joined v) batch) ∙ ap fold_of (sym (joined_add v batch))
 

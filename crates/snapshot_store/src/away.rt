@@ -61,16 +61,16 @@ impl Away {
         ensures book { IfOk result (λ reader. reader.book ≡ self.book) }
         ensures stays { IfErr result (λ away. away ≡ self) }
     {
-        let Some((version, found)) = self.shared.newest(&self.known) else {
+        let Some((snapshot, found)) = self.shared.newest(&self.known) else {
             return Err(self);
         };
-        tie(version.seen(), &self.known);
+        tie(snapshot.seen(), &self.known);
         let Away {
             shared,
             version: _,
             known: _,
         } = self;
-        Ok(Reader::new(shared, version, found))
+        Ok(Reader::new(shared, snapshot, found))
     }
 
     /// Like `enter`; the version isn't older than the notice's either, whichever thread made the notice. The notice

@@ -105,7 +105,7 @@ impl Plain<u64, Event, u64> for Offered {
 #[derive(Drop)]
 pub(crate) struct Seen {
     /// The number of batches.
-    number: u64,
+    batch_count: u64,
     beginning: logbook::Seen<Event, u64, BookRule>,
 }
 
@@ -118,7 +118,7 @@ impl Model for Seen {
 
     ghost view = { λ s. record { book = s.beginning.book; batches = batches_of s.beginning.log } };
 
-    ghost invariant = { λ s. s.number ≡ length (batches_of s.beginning.log) };
+    ghost invariant = { λ s. s.batch_count ≡ length (batches_of s.beginning.log) };
 }
 
 /// The word of a book by which batches are made.
@@ -173,7 +173,7 @@ pub(crate) fn open_book() -> (Head, Shown, Seen)
         Head { word },
         Shown { word: shown },
         Seen {
-            number: 0,
+            batch_count: 0,
             beginning,
         },
     )
@@ -181,17 +181,17 @@ pub(crate) fn open_book() -> (Head, Shown, Seen)
 
 impl Seen {
     /// The number of batches.
-    pub(crate) fn number(&self) -> u64
+    pub(crate) fn batch_count(&self) -> u64
         ensures { result ≡ length self.now.batches }
     {
-        self.number
+        self.batch_count
     }
 
     pub(crate) fn again(&self) -> Seen
         ensures { result ≡ self.now }
     {
         Seen {
-            number: self.number,
+            batch_count: self.batch_count,
             beginning: self.beginning.again(),
         }
     }
@@ -205,7 +205,7 @@ impl Seen {
     {
         let mut both = self.beginning.again();
         both.learn(&other.beginning);
-        self.number <= other.number
+        self.batch_count <= other.batch_count
     }
 
     /// Whether both are one beginning.
@@ -214,7 +214,7 @@ impl Seen {
         requires { other.now.book ≡ self.now.book }
         ensures { MatchBool result (other.now ≡ self.now) (other.now ≢ self.now) }
     {
-        self.begins(other) && self.number == other.number
+        self.begins(other) && self.batch_count == other.batch_count
     }
 }
 
@@ -232,7 +232,7 @@ pub(crate) fn add_batch(head: &Head, seen: &Seen, batch: &Vec<Load>) -> Option<S
         Offered,
     >(batch);
     let mut pen = beginning.no_pen();
-    let old = seen.number;
+    let old = seen.batch_count;
     let new = old + 1;
     let found = head
         .word
@@ -241,7 +241,7 @@ pub(crate) fn add_batch(head: &Head, seen: &Seen, batch: &Vec<Load>) -> Option<S
         return None;
     }
     Some(Seen {
-        number: new,
+        batch_count: new,
         beginning,
     })
 }
@@ -291,12 +291,12 @@ pub(crate) fn show(shown: &Shown, version: &Seen, old: u64, at: u64) -> Option<K
     ensures { IfSome result (λ known. known ≡ version.now) }
 {
     let mut beginning = version.beginning.again();
-    let number = version.number;
+    let batch_count = version.batch_count;
     let mut offer: Offer<Event, u64, BookRule, Nothing> = beginning.plain::<Nothing, u64, Offered>(
-        &number,
+        &batch_count,
     );
     let mut pen = beginning.no_pen();
-    let new = number * 64 + at;
+    let new = batch_count * 64 + at;
     let found = shown
         .word
         .compare_exchange::<Showing, Nothing>(old, new, &mut beginning, &mut offer, &mut pen);

@@ -44,11 +44,11 @@ impl Entrance {
         ensures later { IfOk result (λ reader. StartsWith reader.batches self.now.batches) }
         ensures book { IfOk result (λ reader. reader.book ≡ self.now.book) }
     {
-        let Some((version, found)) = self.shared.newest(&self.known) else {
+        let Some((snapshot, found)) = self.shared.newest(&self.known) else {
             return Err(AllocError);
         };
-        tie(version.seen(), &self.known);
+        tie(snapshot.seen(), &self.known);
         let shared = Arc::try_clone(&self.shared)?;
-        Ok(Reader::new(shared, version, found))
+        Ok(Reader::new(shared, snapshot, found))
     }
 }

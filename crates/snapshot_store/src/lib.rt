@@ -18,8 +18,8 @@ mod notice;
 mod publisher;
 mod reader;
 mod shared;
-mod version;
-mod versions;
+mod snapshot;
+mod snapshots;
 
 pub use away::Away;
 pub use entrance::Entrance;

@@ -13,8 +13,8 @@ use crate::fault::{OpenFault, PublishFault};
 use crate::notice::Notice;
 use crate::reader::Reader;
 use crate::shared::{Held, LAST, SLOTS, Shared};
-use crate::version::Version;
-use crate::versions::Versions;
+use crate::snapshot::Snapshot;
+use crate::snapshots::Snapshots;
 use counted_slot::{FREE, PRESENT};
 use live_loads::Room;
 use live_set::Load;
@@ -32,7 +32,7 @@ pub struct Publisher {
     /// The word by which batches are made. Readers never look at it, so it isn't among what they share.
     head: Head,
     shared: Arc<Shared>,
-    versions: Versions,
+    snapshots: Snapshots,
     /// The empty beginning of the store's book.
     beginning: Seen,
     known: Known,
@@ -48,13 +48,13 @@ impl Model for Publisher {
 
     ghost Value = { StoreValue };
 
-    ghost view = { λ p. holding p.versions p.pending.items };
+    ghost view = { λ p. holding p.snapshots p.pending.items };
 
-    ghost invariant = { λ p. (p.head.word.book ≡ p.versions.book)
-        × ((arc_value p.shared).shown.word.book ≡ p.versions.book)
-        × (p.beginning.batches ≡ []) × (p.beginning.book ≡ p.versions.book)
-        × (p.known ≡ p.versions)
-        × (version_of p.versions.batches + length p.pending.items ≤ most_loads) };
+    ghost invariant = { λ p. (p.head.word.book ≡ p.snapshots.book)
+        × ((arc_value p.shared).shown.word.book ≡ p.snapshots.book)
+        × (p.beginning.batches ≡ []) × (p.beginning.book ≡ p.snapshots.book)
+        × (p.known ≡ p.snapshots)
+        × (version_of p.snapshots.batches + length p.pending.items ≤ most_loads) };
 }
 
 /// Opens a store in which nothing is published.
@@ -62,16 +62,16 @@ pub fn open_store(alloc: Global) -> Result<Publisher, OpenFault>
     ensures { IfOk result (λ p. (p ≡ holding p.seen []) × (p.seen.batches ≡ [])) }
 {
     let (head, shown, beginning) = open_book();
-    let versions = Versions::first(alloc, &beginning)?;
+    let snapshots = Snapshots::first(alloc, &beginning)?;
     let shared = Arc::new(
         alloc,
-        Shared::new(alloc, shown, &beginning, versions.current())?,
+        Shared::new(alloc, shown, &beginning, snapshots.current())?,
     )?;
     let known = Known::first(&beginning);
     Ok(Publisher {
         head,
         shared,
-        versions,
+        snapshots,
         beginning,
         known,
         pending: Vec::new(alloc),
@@ -79,12 +79,12 @@ pub fn open_store(alloc: Global) -> Result<Publisher, OpenFault>
 }
 
 /// Puts the version into its place, which nobody else has. Returns whether it did.
-fn fill(place: &mut Arc<Version>, version: Version) -> bool
-    ensures { MatchBool result (arc_value place.new ≡ version) (arc_value place.new ≡ arc_value place.old) }
+fn fill(room: &mut Arc<Snapshot>, snapshot: Snapshot) -> bool
+    ensures { MatchBool result (arc_value room.new ≡ snapshot) (arc_value room.new ≡ arc_value room.old) }
 {
-    match Arc::get_mut(place) {
+    match Arc::get_mut(room) {
         Some(at) => {
-            *at = version;
+            *at = snapshot;
             true
         }
         None => false,
@@ -99,7 +99,7 @@ impl Publisher {
         // Published and pending loads together never exceed what the store takes.
         ensures within { IsWithin self.now }
     {
-        self.versions.current().version()
+        self.snapshots.current().version()
     }
 
     /// The number of pending loads: accepted and not yet published.
@@ -112,7 +112,7 @@ impl Publisher {
 
     /// The number of replaced versions that aren't freed. Right after `reclaim` these are the ones that a reader has.
     pub fn retained(&self) -> usize {
-        self.versions.retained()
+        self.snapshots.retained()
     }
 
     /// Frees the replaced versions that no reader has. Each publish does so as well.
@@ -120,19 +120,19 @@ impl Publisher {
         ensures { self.new ≡ self.old }
     {
         // A slot that isn't shown has nothing but versions that were replaced.
-        if self.versions.retained() == 0 {
+        if self.snapshots.retained() == 0 {
             return;
         }
         let (word, _) = shown_after(&self.shared.shown, &self.known);
         self.shared.empty_others(word);
-        self.versions.reclaim();
+        self.snapshots.reclaim();
     }
 
     /// A notice of what is published now.
     pub fn tell(&self) -> Notice
         ensures { result ≡ self.now.seen }
     {
-        Notice::new(self.versions.current().version(), self.known.again())
+        Notice::new(self.snapshots.current().version(), self.known.again())
     }
 
     /// A reader of this store, in the version that was published last. Fails if there are 2^31 readers already.
@@ -140,8 +140,8 @@ impl Publisher {
         ensures { IfOk result (λ reader. reader ≡ self.now.seen) }
     {
         let shared = Arc::try_clone(&self.shared)?;
-        let version = Arc::try_clone(self.versions.current())?;
-        Ok(Reader::new(shared, version, self.known.again()))
+        let snapshot = Arc::try_clone(self.snapshots.current())?;
+        Ok(Reader::new(shared, snapshot, self.known.again()))
     }
 
     /// An entrance to this store: readers can be made there while this publisher publishes. Fails if there are 2^31
@@ -158,7 +158,7 @@ impl Publisher {
         requires { reader.now.book ≡ self.now.seen.book }
         ensures { MatchBool result (reader.now ≡ self.now.seen) (reader.now ≢ self.now.seen) }
     {
-        self.versions.current().seen().is_same(reader.seen())
+        self.snapshots.current().seen().is_same(reader.seen())
     }
 
     /// How many loads are accepted, of how many.
@@ -167,7 +167,7 @@ impl Publisher {
         ensures within { IsWithin self.now }
     {
         Room {
-            accepted: self.versions.current().version() + self.pending.len() as u64,
+            accepted: self.snapshots.current().version() + self.pending.len() as u64,
             most: MOST,
         }
     }
@@ -212,7 +212,7 @@ impl Publisher {
         if !self.pending.is_empty() {
             self.publish_pending(alloc)?;
         }
-        Ok(self.versions.current().version())
+        Ok(self.snapshots.current().version())
     }
 
     /// Publishes what is pending as one batch.
@@ -224,14 +224,14 @@ impl Publisher {
         ensures err { OnErr result (self.new ≡ self.old) }
         ensures spent { IfErr result (λ fault. fault ≡ Spent → most_loads ≤ length self.old.seen.batches) }
     {
-        let last = self.versions.current().number();
+        let last = self.snapshots.current().batch_count();
         if last >= LAST {
             return Err(PublishFault::Spent);
         }
         // Once the batch is in the book nothing may fail, so all memory is taken before.
-        let set = self.versions.next_set(alloc, &self.pending)?;
-        let mut place = Arc::new(alloc, Version::first(alloc, &self.beginning))?;
-        self.versions.make_room()?;
+        let set = self.snapshots.next_set(alloc, &self.pending)?;
+        let mut room = Arc::new(alloc, Snapshot::first(alloc, &self.beginning))?;
+        self.snapshots.make_room()?;
         let (word, _) = shown_after(&self.shared.shown, &self.known);
         if word / SLOTS > last {
             return Err(PublishFault::Memory);
@@ -240,19 +240,23 @@ impl Publisher {
             return Err(PublishFault::Busy);
         };
         // Nothing below fails, since a store has one publisher; but no proof knows that.
-        let Some(version) = self.versions.current().next(&self.head, &self.pending, set) else {
+        let Some(snapshot) = self
+            .snapshots
+            .current()
+            .next(&self.head, &self.pending, set)
+        else {
             drop(claim.put(None, FREE));
             return Err(PublishFault::Memory);
         };
-        if !fill(&mut place, version) {
+        if !fill(&mut room, snapshot) {
             drop(claim.put(None, FREE));
             return Err(PublishFault::Memory);
         }
-        let Ok(mine) = Arc::try_clone(&place) else {
+        let Ok(mine) = Arc::try_clone(&room) else {
             drop(claim.put(None, FREE));
             return Err(PublishFault::Memory);
         };
-        drop(claim.put(Some(Held { version: place }), PRESENT));
+        drop(claim.put(Some(Held { snapshot: room }), PRESENT));
         let Some(known) = show(&self.shared.shown, mine.seen(), word, at) else {
             return Err(PublishFault::Memory);
         };
@@ -263,15 +267,15 @@ impl Publisher {
 
     /// From now on this version is the one that is shown, and nothing is pending.
     #[tactic(auto, using(crate::proofs::Growing::version_added))]
-    fn turn(&mut self, version: Arc<Version>, known: Known)
-        requires version { arc_value version ≡ record {
+    fn turn(&mut self, snapshot: Arc<Snapshot>, known: Known)
+        requires snapshot { arc_value snapshot ≡ record {
           book = self.old.seen.book;
           batches = self.old.seen.batches ++ self.old.pending ∷ [];
         } }
-        requires known { known ≡ arc_value version }
-        ensures { self.new ≡ holding (arc_value version) [] }
+        requires known { known ≡ arc_value snapshot }
+        ensures { self.new ≡ holding (arc_value snapshot) [] }
     {
         self.known = known;
-        self.versions.advance(version, &mut self.pending);
+        self.snapshots.advance(snapshot, &mut self.pending);
     }
 }

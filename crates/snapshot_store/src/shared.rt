@@ -1,13 +1,13 @@
-//! What the publisher and the readers share: some slots, and the number of the version that is shown.
+//! What the publisher and the readers share: some slots, and the number of the snapshot that is shown.
 //!
-//! A slot has the `Arc` of a version, and counts who is just copying it. The publisher changes only a slot in which no
-//! one is, and never the one of the version that is shown.
+//! A slot has the `Arc` of a snapshot, and counts who is just copying it. The publisher changes only a slot in which no
+//! one is, and never the one of the snapshot that is shown.
 ghost use Rattle.std.specs.Prelude.{◌≡◌, ◌≢◌, ◌<◌, length, ◌≤◌, ◌*◌, ◌/◌, ◌%◌, ◌^◌, ◌+◌, All, IfSome, IfOk};
 ghost use Rattle.std.specs.Arc.{arc_value};
 ghost use Rattle.counted_slot.specs.Counting.{readers};
 
 use crate::book::{Known, Seen, Shown, shown_after};
-use crate::version::Version;
+use crate::snapshot::Snapshot;
 use counted_slot::{Claim, Counted, FREE, Fits, MOST_READERS, ONE_READER, PRESENT, TAKEN};
 use std::alloc::{AllocError, Global};
 use std::sync::Arc;
@@ -20,20 +20,20 @@ const IN_A_LINE: u64 = 4;
 
 const LINES: u64 = SLOTS / IN_A_LINE;
 
-/// The greatest number of a version.
+/// The greatest number of a snapshot.
 pub(crate) const LAST: u64 = 0x3ff_ffff_ffff_ffff;
 
-/// A version in a slot.
+/// A snapshot in a slot.
 #[derive(Drop)]
 pub(crate) struct Held {
-    pub(crate) version: Arc<Version>,
+    pub(crate) snapshot: Arc<Snapshot>,
 }
 
 /// A slot has versions of one book alone.
 impl Fits for Held {
     type Tag = Seen;
 
-    ghost fits = { λ tag held. (arc_value held.version).book ≡ tag.book };
+    ghost fits = { λ tag held. (arc_value held.snapshot).book ≡ tag.book };
 }
 
 pub(crate) type Slot = Counted<Option<Held>>;
@@ -79,12 +79,12 @@ fn new_slots(alloc: Global, seen: &Seen) -> Result<Vec<Slot>, AllocError>
 }
 
 impl Shared {
-    /// Slots of which the first one has this version, which is shown, and the others nothing.
+    /// Slots of which the first one has this snapshot, which is shown, and the others nothing.
     pub(crate) fn new(
         alloc: Global,
         shown: Shown,
         seen: &Seen,
-        first: &Arc<Version>,
+        first: &Arc<Snapshot>,
     ) -> Result<Shared, AllocError>
         requires seen { shown.word.book ≡ seen.now.book }
         requires first { (arc_value first.now).book ≡ shown.word.book }
@@ -92,11 +92,11 @@ impl Shared {
     {
         let slots = new_slots(alloc, seen)?;
         let shared = Shared { shown, slots };
-        let version = Arc::try_clone(first)?;
+        let snapshot = Arc::try_clone(first)?;
         let Some(claim) = shared.room(0) else {
             return Err(AllocError);
         };
-        drop(claim.put(Some(Held { version }), PRESENT));
+        drop(claim.put(Some(Held { snapshot }), PRESENT));
         Ok(shared)
     }
 
@@ -139,8 +139,8 @@ impl Shared {
     }
 
     /// A copy of what is in a slot, if something is.
-    fn copy(&self, at: u64) -> Option<Arc<Version>>
-        ensures { IfSome result (λ version. (arc_value version).book ≡ self.now.shown.word.book) }
+    fn copy(&self, at: u64) -> Option<Arc<Snapshot>>
+        ensures { IfSome result (λ snapshot. (arc_value snapshot).book ≡ self.now.shown.word.book) }
     {
         let slot = self.slot(at)?;
         for _ in 0..u64::MAX {
@@ -157,27 +157,27 @@ impl Shared {
         None
     }
 
-    /// The version that is shown, which is not behind what is known, and that it was shown. It gives up only where it
+    /// The snapshot that is shown, which is not behind what is known, and that it was shown. It gives up only where it
     /// failed very often.
-    pub(crate) fn newest(&self, known: &Known) -> Option<(Arc<Version>, Known)>
+    pub(crate) fn newest(&self, known: &Known) -> Option<(Arc<Snapshot>, Known)>
         requires { known.now.book ≡ self.now.shown.word.book }
         ensures { IfSome result (λ r. (r.1 ≡ arc_value r.0) × ((arc_value r.0).book ≡ self.now.shown.word.book)
             × (length known.now.batches ≤ length (arc_value r.0).batches)) }
     {
         for _ in 0..u64::MAX {
             let (word, sight) = shown_after(&self.shown, known);
-            if let Some(version) = self.copy(word) {
-                // The slot may have a later version already, which is not shown yet.
-                if version.number() == word / SLOTS {
-                    let found = Known::found(version.seen(), sight);
-                    return Some((version, found));
+            if let Some(snapshot) = self.copy(word) {
+                // The slot may have a later snapshot already, which is not shown yet.
+                if snapshot.batch_count() == word / SLOTS {
+                    let found = Known::found(snapshot.seen(), sight);
+                    return Some((snapshot, found));
                 }
             }
         }
         None
     }
 
-    /// Empties all slots but this one. One in which someone is copying keeps its version until a later call.
+    /// Empties all slots but this one. One in which someone is copying keeps its snapshot until a later call.
     pub(crate) fn empty_others(&self, but: u64) {
         for turn in 1..SLOTS {
             self.empty(slot_after(but, turn), but);
@@ -199,12 +199,12 @@ impl Shared {
 }
 
 /// A copy of what the claim lets its holder read.
-fn copied(claim: Claim<'_, Option<Held>>) -> Option<Arc<Version>>
+fn copied(claim: Claim<'_, Option<Held>>) -> Option<Arc<Snapshot>>
     requires { claim.right ≡ 1 }
-    ensures { IfSome result (λ version. (arc_value version).book ≡ claim.entry.tag.book) }
+    ensures { IfSome result (λ snapshot. (arc_value snapshot).book ≡ claim.entry.tag.book) }
 {
     let copy = match claim.get() {
-        Some(held) => Arc::try_clone(&held.version).ok(),
+        Some(held) => Arc::try_clone(&held.snapshot).ok(),
         None => None,
     };
     claim.leave();

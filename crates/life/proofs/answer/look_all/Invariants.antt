@@ -1,8 +1,8 @@
 use Rattle.std.proofs.Common.{take}
 use Rattle.live_versions.specs.Batches.{joined}
-use Rattle.live_versions.specs.Entering.{entry_of}
+use Rattle.live_versions.specs.Entering.{visit_of}
 use Rattle.life.specs.Replies.{AreTextsOf}
 use Rattle.life.proofs.answer.look_all.Given as goal
 
 abbrev pub invariant-loop-index : goal.invariant-loop-index
-invariant-loop-index l = AreTextsOf (joined (entry_of l.pinned).batches) (take l.index l.queries) l.texts.items
+invariant-loop-index l = AreTextsOf (joined (visit_of l.pinned).batches) (take l.index l.queries) l.texts.items

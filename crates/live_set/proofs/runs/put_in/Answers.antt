@@ -1,6 +1,6 @@
 use Rattle.std.proofs.Common.{◌≡◌, List, Equal, ap, insert, slice_set, sym, subst, ◌∙◌}
 use Rattle.live_set.specs.Loads.{LoadValue}
-use Rattle.live_set.specs.Slots.{IsAt, IsGapFor, asked, compared}
+use Rattle.live_set.specs.Slots.{IsAt, IsGapFor, probe, order_of}
 use Rattle.live_set.proofs.Order.{with_map}
 use Rattle.live_set.proofs.Slotting.{put_at, put_gap}
 use Rattle.live_set.proofs.runs.put_in.Goals as goal
@@ -13,7 +13,7 @@ returns-in_ok-catalogue-in-Ok c =
     let old = c.index_mut.result.now in
     let at = subst (λ (held : List LoadValue). IsAt held c.domain.result c.locale.result c.in-Ok.at)
     c.deref.ensures.value c.in-Ok.ensures.found in
-    let tied : compared old (asked load.domain load.locale) ≡ Equal = rw
+    let tied : order_of old (probe load.domain load.locale) ≡ Equal = rw
     (c.index_mut.ensures.value, ← c.domain.ensures, ← c.locale.ensures) (at.tied old) in
     let map = c.in_ok-catalogue-in-Ok.ensures ∙ ap (λ (l : LoadValue). l.map) c.load.view_is in
     let shared : c.replace_catalogue.new.self ≡ record { domain = old.domain; locale = old.locale; map = load.map } =

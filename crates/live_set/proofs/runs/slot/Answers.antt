@@ -1,6 +1,6 @@
 use Rattle.std.proofs.Common.{rules}
 use Rattle.std.proofs.lemmas.Fn.{always_returns_same}
-use Rattle.live_set.specs.Slots.{compared, asked}
+use Rattle.live_set.specs.Slots.{order_of, probe}
 use Rattle.live_set.proofs.Slotting.{searched}
 use Rattle.live_set.proofs.runs.slot.Goals as goal
 
@@ -8,6 +8,6 @@ use Rattle.live_set.proofs.runs.slot.Goals as goal
 pub returns : goal.returns
 returns c =
     let facts = c.binary_search_by.ensures in
-    let by = facts.position (λ l. compared l (asked c.args.domain.now c.args.locale.now))
+    let by = facts.position (λ l. order_of l (probe c.args.domain.now c.args.locale.now))
     (always_returns_same _ _ _ (λ a r f' called. search rules)) in
     searched _ _ _ _ c.requires facts.bound by

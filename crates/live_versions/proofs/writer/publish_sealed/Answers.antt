@@ -1,5 +1,5 @@
 use Rattle.std.proofs.Common.{◌≡◌, ap, ◌∙◌, drop, fold, ◌∷◌, [], ◌++◌, length, arith, ◌+◌}
-use Rattle.live_set.specs.Sets.{absorbed}
+use Rattle.live_set.specs.Sets.{with_load}
 use Rattle.live_loads.specs.Batches.{version_of}
 use Rattle.live_versions.specs.Changes.{loads_of}
 use Rattle.live_versions.proofs.Changes.{fold-sealed}
@@ -14,7 +14,7 @@ publish_as-requires g c next is =
     let items = drop w.behind w.log.items in
     let f = c.args.seal.now.value in
     let now : record { set = next.set; seen = next.seen } ≡ record
-    { set = fold absorbed x.set (loads_of items); seen = f } = is
+    { set = fold with_load x.set (loads_of items); seen = f } = is
     ∙ fold-sealed (record { set = x.set; seen = x.seen }) items f c.requires.sealed in
     let grown : next.seen.batches ≡ x.seen.batches ++ loads_of items ∷ [] = ap (λ t. t.seen.batches) now
     ∙ ap (λ z. z.batches) c.requires.bound in

@@ -13,6 +13,6 @@ returns c =
     let z = c.learn.new.self.log in
     let first : IsPrefix a z = subst (λ (s : List Event). IsPrefix s z)
     (ap (λ s. s.log) c.again-both.ensures) h.2 in
-    let k = compared (batches_of a) (batches_of b) (batches_of z) c.self.inside.number c.other.inside.number
+    let k = compared (batches_of a) (batches_of b) (batches_of z) c.self.inside.batch_count c.other.inside.batch_count
     (batches_prefix a z first) (batches_prefix b z h.3) c.self.invariant c.other.invariant in
     rw (← c.self.view_is, ← c.other.view_is) k

@@ -1,11 +1,11 @@
-//! The version that is published, and those that it replaced.
+//! The snapshot that is published, and those that it replaced.
 ghost use Rattle.std.specs.Prelude.{◌≡◌, ◌++◌, ◌∷◌, [], IfOk};
 ghost use Rattle.std.specs.Arc.{arc_value};
 ghost use Rattle.live_set.specs.Sets.{fold as fold_of};
 ghost use Rattle.live_loads.specs.Batches.{joined};
 
 use crate::book::Seen;
-use crate::version::{Version, with_loads};
+use crate::snapshot::{Snapshot, with_loads};
 use live_set::{CatalogueSet, Load};
 use std::alloc::{AllocError, AllocFailed, Global};
 use std::marker::Model;
@@ -14,13 +14,13 @@ use std::sync::Arc;
 
 /// The versions of a publisher. Contracts see the published one.
 #[derive(Drop)]
-pub(crate) struct Versions {
-    current: Arc<Version>,
-    /// Older versions that a reader may have. Readers only let go of a version; what is freed, is freed here.
-    retired: Vec<Arc<Version>>,
+pub(crate) struct Snapshots {
+    current: Arc<Snapshot>,
+    /// Older versions that a reader may have. Readers only let go of a snapshot; what is freed, is freed here.
+    retired: Vec<Arc<Snapshot>>,
 }
 
-impl Model for Versions {
+impl Model for Snapshots {
     ghost use Rattle.std.specs.Arc.{arc_value};
     ghost use Rattle.live_loads.specs.Seen.{SeenValue};
 
@@ -29,20 +29,20 @@ impl Model for Versions {
     ghost view = { λ v. arc_value v.current };
 }
 
-impl Versions {
-    /// The version of no batches.
-    pub(crate) fn first(alloc: Global, seen: &Seen) -> Result<Versions, AllocFailed<Version>>
+impl Snapshots {
+    /// The snapshot of no batches.
+    pub(crate) fn first(alloc: Global, seen: &Seen) -> Result<Snapshots, AllocFailed<Snapshot>>
         requires { seen.now.batches ≡ [] }
-        ensures { IfOk result (λ versions. versions ≡ seen.now) }
+        ensures { IfOk result (λ snapshots. snapshots ≡ seen.now) }
     {
-        Ok(Versions {
-            current: Arc::new(alloc, Version::first(alloc, seen))?,
+        Ok(Snapshots {
+            current: Arc::new(alloc, Snapshot::first(alloc, seen))?,
             retired: Vec::new(alloc),
         })
     }
 
-    /// The version that is published.
-    pub(crate) fn current(&self) -> &Arc<Version>
+    /// The snapshot that is published.
+    pub(crate) fn current(&self) -> &Arc<Snapshot>
         ensures { arc_value result.now ≡ self.now }
     {
         &self.current
@@ -53,7 +53,7 @@ impl Versions {
         self.retired.len()
     }
 
-    /// The set of the next version, which has this batch. It shares all other catalogues with the published one.
+    /// The set of the next snapshot, which has this batch. It shares all other catalogues with the published one.
     #[tactic(auto, using(crate::proofs::Growing::set_add))]
     pub(crate) fn next_set(
         &self,
@@ -65,19 +65,19 @@ impl Versions {
         with_loads(self.current.copy_of_set(alloc)?, batch)
     }
 
-    /// From now on this version is the published one: that so far, with the batch. The batch is left empty.
-    pub(crate) fn advance(&mut self, version: Arc<Version>, batch: &mut Vec<Load>)
-        ensures current { self.new ≡ arc_value version }
+    /// From now on this snapshot is the published one: that so far, with the batch. The batch is left empty.
+    pub(crate) fn advance(&mut self, snapshot: Arc<Snapshot>, batch: &mut Vec<Load>)
+        ensures current { self.new ≡ arc_value snapshot }
         ensures batch { batch.new.items ≡ [] }
     {
-        let was = replace(&mut self.current, version);
+        let was = replace(&mut self.current, snapshot);
         batch.clear();
         // `make_room` made sure that there is room.
         drop(self.retired.push(was));
         self.reclaim();
     }
 
-    /// Makes room in the list for one more version.
+    /// Makes room in the list for one more snapshot.
     pub(crate) fn make_room(&mut self) -> Result<(), AllocError>
         ensures { self.new ≡ self.old }
     {
@@ -89,6 +89,6 @@ impl Versions {
         ensures { self.new ≡ self.old }
     {
         self.retired
-            .retain(|version| Arc::strong_count(version) > 1);
+            .retain(|snapshot| Arc::strong_count(snapshot) > 1);
     }
 }

@@ -1,7 +1,7 @@
 use Rattle.std.proofs.Common.{ap, arith}
 use Rattle.live_loads.specs.Batches.{version_of}
 use Rattle.live_loads.proofs.Joining.{version-add}
-use Rattle.snapshot_store.proofs.version.Version.next.Goals as goal
+use Rattle.snapshot_store.proofs.snapshot.Snapshot.next.Goals as goal
 
 pub invariant_of-result : goal.invariant_of-result
 invariant_of-result c =

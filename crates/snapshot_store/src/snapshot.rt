@@ -1,6 +1,6 @@
-//! Versions: the set of catalogues after some batches.
+//! Snapshots: the set of catalogues after some batches.
 ghost use Rattle.std.specs.Prelude.{◌≡◌, ◌+◌, ◌<◌, ◌^◌, ◌++◌, ◌∷◌, [], length, fold, MatchBool, IfOk, IfSome};
-ghost use Rattle.live_set.specs.Sets.{absorbed, fold as fold_of};
+ghost use Rattle.live_set.specs.Sets.{with_load, fold as fold_of};
 ghost use Rattle.live_loads.specs.Batches.{StartsWith, joined, version_of};
 ghost use Rattle.snapshot_store.specs.Holding.{IsSetOf};
 
@@ -11,14 +11,14 @@ use std::marker::Model;
 
 /// A version that was made. Contracts see it as the batches up to and with its own.
 #[derive(Drop)]
-pub(crate) struct Version {
+pub(crate) struct Snapshot {
     seen: Seen,
     /// The number of loads.
     version: u64,
     set: CatalogueSet,
 }
 
-impl Model for Version {
+impl Model for Snapshot {
     ghost use Rattle.std.specs.Prelude.{◌≡◌};
     ghost use Rattle.live_set.specs.Sets.{fold};
     ghost use Rattle.live_loads.specs.Batches.{joined, version_of};
@@ -33,7 +33,7 @@ impl Model for Version {
 
 /// The set with these loads, one after another. It shares their catalogues.
 pub(crate) fn with_loads(set: CatalogueSet, loads: &Vec<Load>) -> Result<CatalogueSet, AllocError>
-    ensures { IfOk result (λ grown. grown ≡ fold absorbed set loads.now.items) }
+    ensures { IfOk result (λ grown. grown ≡ fold with_load set loads.now.items) }
 {
     let mut grown = set;
     'loads: for load in loads {
@@ -42,13 +42,13 @@ pub(crate) fn with_loads(set: CatalogueSet, loads: &Vec<Load>) -> Result<Catalog
     Ok(grown)
 }
 
-impl Version {
+impl Snapshot {
     /// The version of no batches.
-    pub(crate) fn first(alloc: Global, seen: &Seen) -> Version
+    pub(crate) fn first(alloc: Global, seen: &Seen) -> Snapshot
         requires { seen.now.batches ≡ [] }
         ensures { result ≡ seen.now }
     {
-        Version {
+        Snapshot {
             seen: seen.again(),
             version: 0,
             set: CatalogueSet::new(alloc),
@@ -56,10 +56,10 @@ impl Version {
     }
 
     /// The number of batches.
-    pub(crate) fn number(&self) -> u64
+    pub(crate) fn batch_count(&self) -> u64
         ensures { result ≡ length self.now.batches }
     {
-        self.seen.number()
+        self.seen.batch_count()
     }
 
     /// The number of loads.
@@ -83,7 +83,7 @@ impl Version {
     }
 
     /// Whether `self` is a beginning of `other`; if not, `other` is a shorter beginning of `self`.
-    pub(crate) fn begins(&self, other: &Version) -> bool
+    pub(crate) fn begins(&self, other: &Snapshot) -> bool
         requires { other.now.book ≡ self.now.book }
         ensures { MatchBool result (StartsWith other.now.batches self.now.batches)
             (StartsWith self.now.batches other.now.batches
@@ -100,7 +100,7 @@ impl Version {
     }
 
     /// The next version, which has the batch and this set. Returns `None` if the book has moved on.
-    pub(crate) fn next(&self, head: &Head, batch: &Vec<Load>, set: CatalogueSet) -> Option<Version>
+    pub(crate) fn next(&self, head: &Head, batch: &Vec<Load>, set: CatalogueSet) -> Option<Snapshot>
         requires book { head.now.word.book ≡ self.now.book }
         requires room { length self.now.batches + 1 < 2 ^ 58 }
         requires loads { version_of self.now.batches + length batch.now.items < 2 ^ 64 }
@@ -109,7 +109,7 @@ impl Version {
             ≡ record { book = self.now.book; batches = self.now.batches ++ batch.now.items ∷ [] }) }
     {
         let seen = add_batch(head, &self.seen, batch)?;
-        Some(Version {
+        Some(Snapshot {
             seen,
             version: self.version + batch.len() as u64,
             set,
