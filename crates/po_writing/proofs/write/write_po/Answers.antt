@@ -1,7 +1,7 @@
 use Rattle.std.proofs.Common.{◌≡◌, ◌≤◌, ℕ, List, length, sym, ap, ◌∙◌, subst, arith, Vec, Global}
 use Rattle.std.proofs.lemmas.List.{take_all}
 use Rattle.message.specs.Message.{Entry}
-use Rattle.mo_image.proofs.Lists.{at_place}
+use Rattle.mo_image.proofs.Lists.{at_index}
 use Rattle.po_text.specs.Outcome.{max_text}
 use Rattle.po_writing.specs.Laws.{Tells}
 use Rattle.po_writing.specs.Written.{po_of}
@@ -11,7 +11,7 @@ use Rattle.po_writing.proofs.write.write_po.Goals as goal
 use Rattle.po_writing.proofs.write.write_po.Goals.{then-i-gt0+in_ok-push, else-i-gt0}
 
 pub push_entry-requires-clause-few : goal.push_entry-requires-clause-few
-push_entry-requires-clause-few c = at_place IsFew c.args.catalogue.now c.loop-i.i c.entry.result
+push_entry-requires-clause-few c = at_index IsFew c.args.catalogue.now c.loop-i.i c.entry.result
     (few_forms c.args.catalogue.now c.len-i-end.ensures.lawful) c.entry.ensures
 
 pub loop-i-preserved : goal.loop-i-preserved
