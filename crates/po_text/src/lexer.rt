@@ -193,7 +193,7 @@ impl<'a> Lexer<'a> {
                 self.rest = later;
             } else if byte == b'#' {
                 let (comment, after) = split_line(later);
-                self.flags = comment_flags(comment, self.flags);
+                comment_flags(comment, &mut self.flags);
                 self.rest = after;
             } else {
                 return;
