@@ -1,11 +1,12 @@
 #!/usr/bin/env python3
 """Writes a PO file of about BYTES bytes, always the same one for the same SEED, on standard output.
 
-    bench/make_po.py BYTES SEED > FILE
+    bench/make_po.py [--short] BYTES SEED > FILE
 
 The file has the lengths and the parts of real ones: unique messages of one word to a page, one in ten with a
 context, some with three plural forms, C formats, references, comments of translators and programmers, strings
-over several lines, escapes, and a few fuzzy, untranslated and obsolete entries. Translations are in Latin script
+over several lines, escapes, and a few fuzzy, untranslated and obsolete entries. With --short the messages are as long
+as those of the catalogues that a Debian system has installed, 31 bytes on average. Translations are in Latin script
 with accents, in Cyrillic, and in Chinese and Japanese. GNU `msgfmt -c` passes it without a word.
 It ends with the last whole entry that fits, so it is shorter than BYTES by less than the longest entry.
 """
@@ -90,8 +91,9 @@ WIDTH = 77
 class Writer:
     """Draws entries; it uses the bare `random()` alone, whose numbers are the same in each version of Python."""
 
-    def __init__(self, seed):
+    def __init__(self, seed, is_short=False):
         self.random = Random(seed).random
+        self.is_short = is_short
         self.seen = set()
 
     def below(self, limit):
@@ -107,6 +109,8 @@ class Writer:
     def word_count(self):
         """Short labels, sentences, paragraphs and pages, about as often as in real catalogues."""
         kind = self.random()
+        if self.is_short:
+            return self.short_count(kind)
         if kind < 0.50:
             return 1 + self.below(5)
         if kind < 0.87:
@@ -114,6 +118,15 @@ class Writer:
         if kind < 0.985:
             return 15 + self.below(35)
         return 50 + self.below(150)
+
+    def short_count(self, kind):
+        if kind < 0.55:
+            return 1 + self.below(3)
+        if kind < 0.90:
+            return 3 + self.below(6)
+        if kind < 0.99:
+            return 8 + self.below(15)
+        return 20 + self.below(60)
 
     def formats(self):
         """The directives of a C format; None for a message that is none."""
@@ -235,9 +248,11 @@ def line_end(part):
 
 
 def main(arguments):
-    if len(arguments) != 2 or not all(it.isascii() and it.isdigit() for it in arguments):
-        sys.exit("usage: make_po.py BYTES SEED")
-    size, writer = int(arguments[0]), Writer(int(arguments[1]))
+    is_short = arguments[:1] == ["--short"]
+    numbers = arguments[is_short:]
+    if len(numbers) != 2 or not all(it.isascii() and it.isdigit() for it in numbers):
+        sys.exit("usage: make_po.py [--short] BYTES SEED")
+    size, writer = int(numbers[0]), Writer(int(numbers[1]), is_short)
     out = sys.stdout.buffer
     left = size - len(HEADER.encode())
     out.write(HEADER.encode())

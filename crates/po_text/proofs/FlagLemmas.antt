@@ -2,7 +2,7 @@
 use Rattle.std.proofs.Common.{◌≡◌, ℕ, Bool, true, false, not, List, [], ◌∷◌, ◌++◌}
 use Rattle.std.proofs.Common.{take, drop, reverse, refl, sym, ap, ◌∙◌, inl, inr, one-add}
 use Rattle.std.proofs.Common.{map}
-use Rattle.std.specs.List.{fold, list_any, slice_split, prefix_len, take_while}
+use Rattle.std.specs.List.{list_any, slice_split, prefix_len, take_while}
 use Rattle.std.proofs.lemmas.List.{reverse-append, reverse-reverse}
 use Rattle.std.proofs.lemmas.List.Sums.{fold-append}
 use Rattle.std.proofs.lemmas.List.Sums.{take_while-cons}

@@ -8,18 +8,23 @@ use Rattle.std.proofs.lemmas.List.{length-map}
 use Rattle.std.proofs.lemmas.List.Folds.{prefix_len-append}
 use Rattle.std.proofs.lemmas.List.Sums.{prefix_len-le-length, prefix_len_passes}
 use Rattle.std.specs.List.{prefix_len}
-use lib.Bits.{bit_or}
+use lib.Bits.{bit_and, bit_or}
 use lib.Lanes.{chunk, zip2, mask_l, top, Each1}
 use Rattle.byte_text.specs.Lanes.{first_set}
 
-zip2-map : (f g : ℕ → ℕ) (v : List ℕ) → zip2 bit_or (map f v) (map g v) ≡ map (λ x. bit_or (f x) (g x)) v
-zip2-map f g [] = refl
-zip2-map f g (x ∷ xs) = ap (λ r. bit_or (f x) (g x) ∷ r) (zip2-map f g xs)
+zip2-map : (h : ℕ → ℕ → ℕ) (f g : ℕ → ℕ) (v : List ℕ) → zip2 h (map f v) (map g v) ≡ map (λ x. h (f x) (g x)) v
+zip2-map h f g [] = refl
+zip2-map h f g (x ∷ xs) = ap (λ r. h (f x) (g x) ∷ r) (zip2-map h f g xs)
 
 -- the disjunction of two vectors that were computed lane by lane from v
 pub either : (f g : ℕ → ℕ) (v : List ℕ) {a b : List ℕ} → a ≡ map f v → b ≡ map g v
     → zip2 bit_or a b ≡ map (λ x. bit_or (f x) (g x)) v
-either f g v p q = ap₂ (zip2 bit_or) p q ∙ zip2-map f g v
+either f g v p q = ap₂ (zip2 bit_or) p q ∙ zip2-map bit_or f g v
+
+-- their conjunction
+pub both : (f g : ℕ → ℕ) (v : List ℕ) {a b : List ℕ} → a ≡ map f v → b ≡ map g v
+    → zip2 bit_and a b ≡ map (λ x. bit_and (f x) (g x)) v
+both f g v p q = ap₂ (zip2 bit_and) p q ∙ zip2-map bit_and f g v
 
 -- a test of each byte, and the lanes that stop where it fails
 same_run : (s q : ℕ → Bool) → agree_below (λ x. not (s x)) q 256 ≡ true → (v : List ℕ) → Each1 (Fits w8) v

@@ -41,51 +41,41 @@ fn flag_len(words: &[u8]) -> usize
         .count()
 }
 
-/// The flags after one word of a flag line.
-fn flag_word(word: &[u8], flags: Flags) -> Flags
-    ensures { result ≡ flags_over flags (flag_mark word.now ∷ []) }
+/// Applies one word of a flag line to the flags.
+fn flag_word(word: &[u8], flags: &mut Flags)
+    ensures { flags.new ≡ flags_over flags.old (flag_mark word.now ∷ []) }
 {
     if word == b"fuzzy".as_slice() {
-        Flags {
-            fuzzy: true,
-            ..flags
-        }
+        flags.fuzzy = true;
     } else if word == b"c-format".as_slice() {
-        Flags {
-            c_format: true,
-            ..flags
-        }
+        flags.c_format = true;
     } else {
-        Flags {
-            formats: flags.formats.with_word(word),
-            ..flags
-        }
+        flags.formats = flags.formats.with_word(word);
     }
 }
 
-/// The flags after the words of a flag line.
-fn flag_words(words: &[u8], flags: Flags) -> Flags
-    ensures { result ≡ flags_over flags (map flag_mark (slice_split is_separator words.now)) }
+/// Applies the words of a flag line to the flags.
+fn flag_words(words: &[u8], flags: &mut Flags)
+    ensures { flags.new ≡ flags_over flags.old (map flag_mark (slice_split is_separator words.now)) }
 {
-    let mut flags = flags;
     let mut rest = words;
     'words: loop {
         let (word, after) = rest.split_at(flag_len(rest));
-        flags = flag_word(word, flags);
+        flag_word(word, flags);
         let Some((_, later)) = split_byte(after) else {
-            return flags
+            return
         };
         rest = later;
     }
 }
 
-/// The flags after a comment, given what follows its `#`.
-pub(crate) fn comment_flags(comment: &[u8], flags: Flags) -> Flags
-    ensures { result ≡ flags_over flags (comment_marks comment.now) }
+/// Applies a comment to the flags, given what follows its `#`.
+pub(crate) fn comment_flags(comment: &[u8], flags: &mut Flags)
+    ensures { flags.new ≡ flags_over flags.old (comment_marks comment.now) }
 {
     match split_byte(comment) {
         Some((b',', words)) => flag_words(words, flags),
-        Some((b'~', _)) => Flags::NONE,
-        _ => flags,
+        Some((b'~', _)) => *flags = Flags::NONE,
+        _ => {}
     }
 }

@@ -17,6 +17,7 @@ use crate::fault::{PoFault, PoKind};
 use crate::flags::{Flags, comment_flags};
 use crate::scan::{is_free_of_nul, is_white_byte, split_line};
 use crate::strings::StringBytes;
+use crate::words::word_len;
 use byte_text::split_byte;
 
 /// A token; the bytes of a string are kept in a `StringBytes`.
@@ -41,21 +42,6 @@ pub(crate) struct Lexer<'a> {
     pub(crate) line: u32,
     pub(crate) flags: Flags,
     ghost ends: { EndsText is_free rest.now },
-}
-
-fn is_letter_digit(byte: u8) -> bool
-    ensures { result ≡ is_word_byte byte }
-{
-    byte.is_ascii_alphanumeric() || byte == b'_'
-}
-
-/// The length of the longest word at the front, 0 if there is none.
-fn word_len(text: &[u8]) -> usize
-    ensures { result ≡ prefix_len is_word_byte text.now }
-{
-    text.iter()
-        .take_while(|byte| is_letter_digit(**byte))
-        .count()
 }
 
 /// The number that a word spells, if it is one to nine decimal digits.
@@ -193,7 +179,7 @@ impl<'a> Lexer<'a> {
                 self.rest = later;
             } else if byte == b'#' {
                 let (comment, after) = split_line(later);
-                self.flags = comment_flags(comment, self.flags);
+                comment_flags(comment, &mut self.flags);
                 self.rest = after;
             } else {
                 return;

@@ -18,6 +18,7 @@ mod scan;
 mod stages;
 mod strings;
 mod units;
+mod words;
 
 pub use buffer::EntryBuffer;
 pub use entry::PoEntry;

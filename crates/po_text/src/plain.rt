@@ -9,7 +9,7 @@ use byte_text::first_set;
 use std::simd::prelude::*;
 
 /// The number of bytes in a vector.
-const LANES: usize = 16;
+pub(crate) const LANES: usize = 16;
 
 fn is_plain_byte(byte: u8) -> bool
     ensures { result ≡ is_plain byte }

@@ -5,7 +5,7 @@ use Rattle.po_text.specs.Building.{flags_over}
 use Rattle.po_text.proofs.flags.flag_words.Given as goal
 
 abbrev pub invariant-words : goal.invariant-words
-invariant-words l = flags_over l.fn.flags (map flag_mark (slice_split is_separator l.fn.words))
+invariant-words l = flags_over l.initial.flags (map flag_mark (slice_split is_separator l.fn.words))
     ≡ flags_over l.flags (map flag_mark (slice_split is_separator l.rest))
 
 abbrev pub decreases-words : goal.decreases-words

@@ -16,7 +16,7 @@ pub gap-preserved : goal.gap-preserved
 gap-preserved c =
     goes_comment _ c.gap.self.flags _ _ c.gap.self.line c.in-Some.byte _ _ c.split_line.result.0.now _ _ c.gap.invariant
     c.in-Some.ensures c.if-byte-eq35.true c.split_line.ensures.line c.split_line.ensures.rest
-    (c.comment_flags-self.ensures)
+    (c.comment_flags.ensures)
 
 pub invariant_of-self : goal.invariant_of-self
 invariant_of-self c = record {
