@@ -1,5 +1,5 @@
 -- Live stores, readers and notices as C holds them: what a call makes of them, and what they answer.
-use Rattle.std.specs.Prelude.{◌≡◌, ◌≢◌, ◌⊎◌, ⊤, ℕ, List, [], length, Option, None, MatchOption}
+use Rattle.std.specs.Prelude.{◌≡◌, ◌≢◌, ◌≤◌, ◌⊎◌, ⊤, ℕ, List, [], length, Option, None, MatchOption}
 use Rattle.std.specs.Option.{option_map, option_map_or}
 use Rattle.std.specs.Arc.{arc_value}
 use Rattle.mo_image.specs.Entry.{Entry}
@@ -9,7 +9,7 @@ use Rattle.live_loads.specs.Seen.{SeenValue}
 use Rattle.live_loads.specs.Store.{StoreValue, AddsLoad}
 use Rattle.live_loads.specs.declared.fault.StoreFault.{StoreFault}
 use Rattle.live_loads.specs.declared.fault.StoreFault.TheVariants.{BadName, VersionsSpent}
-use Rattle.snapshot_store.specs.Holding.{IsRefusedShared}
+use Rattle.snapshot_store.specs.Holding.{IsRefusedShared, most_loads}
 use Rattle.snapshot_store.specs.declared.fault.PublishFault.{PublishFault}
 use Rattle.snapshot_store.specs.declared.fault.PublishFault.TheVariants as publish
 use Rattle.c_answers.specs.declared.opened.Opened.{Opened}
@@ -65,9 +65,11 @@ publish_number publish.Memory = memory_fault
 publish_number publish.Busy = busy_fault
 publish_number publish.Spent = spent_fault
 
--- there were pending loads, and they weren't published; nothing changes
+-- there were pending loads, and they weren't published; nothing changes. Versions are spent only where as many batches
+-- are published as the store takes
 abbrev pub IsUnpublished : StoreValue → StoreValue → ℕ → Type 0
 IsUnpublished old new fault = (new ≡ old) × (old.pending ≢ []) × (why : PublishFault) × (fault ≡ publish_number why)
+    × (why ≡ publish.Spent → most_loads ≤ length old.seen.batches)
 
 -- all pending loads are published, or nothing changes
 abbrev pub IsPublishedIn : StoreValue → HeldStore → Type 0
