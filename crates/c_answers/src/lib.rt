@@ -7,4 +7,4 @@ pub mod numbers;
 mod opened;
 
 pub use answers::{answer, context_in, gettext, hint, number, number_in, text};
-pub use opened::{Opened, close};
+pub use opened::{Opened, close, opened_size};

@@ -1,4 +1,9 @@
 //! Catalogues as C holds them: the outcome of opening bytes.
+ghost use Rattle.std.specs.Prelude.{◌≡◌, ◌≤◌};
+ghost use denote.Param.{layout};
+ghost use prog.Memory.{align, size};
+ghost use Rattle.c_answers.specs.contracts.opened.Opened.{the_row};
+
 use catalogue::{Catalogue, Stats};
 use std::sync::Arc;
 
@@ -12,6 +17,14 @@ pub struct Opened {
     pub line: u32,
     /// The counts of the PO text's entries; all 0 for an MO file, and if there is no catalogue.
     pub stats: Stats,
+}
+
+/// The number of bytes that C allocates for a catalogue. `malloc` aligns them well enough.
+pub fn opened_size() -> usize
+    ensures size { result ≡ size (layout the_row) }
+    ensures alignment { align (layout the_row) ≤ 16 }
+{
+    std::mem::size_of::<Opened>()
 }
 
 /// Drops what was opened.

@@ -4,5 +4,6 @@
 mod outputs;
 
 pub use outputs::{
-    HeldOutput, Output, check_formats, close_output, output_number, output_text, write_text,
+    HeldOutput, Output, check_formats, close_output, output_number, output_size, output_text,
+    write_text,
 };

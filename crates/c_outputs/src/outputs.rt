@@ -1,8 +1,11 @@
 //! What is made of a catalogue or of a PO text, as C holds it: a PO text, or a list of faults.
-ghost use Rattle.std.specs.Prelude.{◌≡◌, nat_lt, slice_get, option_map, IfOk, IfErr};
+ghost use Rattle.std.specs.Prelude.{◌≡◌, ◌≤◌, nat_lt, slice_get, option_map, IfOk, IfErr};
 ghost use Rattle.format_flags.specs.Languages.{number as language_number};
 ghost use Rattle.po_formats.specs.TextFaults.{HasFaultsAny, RefusesAny};
+ghost use denote.Param.{layout};
+ghost use prog.Memory.{align, size};
 ghost use Rattle.c_opening.specs.Opening.{options_of};
+ghost use Rattle.c_outputs.specs.contracts.outputs.HeldOutput.{the_row};
 ghost use Rattle.c_outputs.specs.Outputs.{IsFormatFaults, IsPoText, IsPoTextOf, IsUnmade, faults_in, text_in};
 ghost use Rattle.c_outputs.specs.Outputs.{difference_number, fault_part, output_number};
 
@@ -33,10 +36,18 @@ pub enum Output {
 #[derive(Drop)]
 pub struct HeldOutput {
     pub output: Output,
-    /// The number of why there is none (`numbers`); otherwise `NO_FAULT`.
+    /// The number of why there is none (`c_answers::numbers`); otherwise `NO_FAULT`.
     pub fault: u32,
     /// The fault's line in a PO text; 0 if it has none.
     pub line: u32,
+}
+
+/// The number of bytes that C allocates for what was made. `malloc` aligns them well enough.
+pub fn output_size() -> usize
+    ensures size { result ≡ size (layout the_row) }
+    ensures alignment { align (layout the_row) ≤ 16 }
+{
+    std::mem::size_of::<HeldOutput>()
 }
 
 /// Nothing, for this reason.

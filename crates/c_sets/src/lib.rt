@@ -7,5 +7,6 @@ mod sets;
 
 pub use places::{set_answer_at, set_hint, set_places};
 pub use sets::{
-    HeldSet, Origin, close_set, is_name_of, new_set, set_answer, set_number, with_one, without,
+    HeldSet, Origin, close_set, is_name_of, new_set, set_answer, set_number, set_size, with_one,
+    without,
 };

@@ -1,10 +1,13 @@
 //! Sets of catalogues as C holds them. A set never changes: adding a catalogue makes a new set. A reader of a live
 //! store is the set of the version that it entered last, or the empty set once it has left.
-ghost use Rattle.std.specs.Prelude.{◌≡◌, ◌↔◌, IfOk, IsTrue, option_map};
+ghost use Rattle.std.specs.Prelude.{◌≡◌, ◌≤◌, ◌↔◌, IfOk, IsTrue, option_map};
 ghost use Rattle.std.specs.Arc.{arc_value};
 ghost use Rattle.live_set.specs.Names.{IsName};
 ghost use Rattle.live_set.specs.Sets.{HasAbsorbed, no_loads};
+ghost use denote.Param.{layout};
+ghost use prog.Memory.{align, size};
 ghost use Rattle.c_answers.specs.Answering.{question};
+ghost use Rattle.c_sets.specs.contracts.sets.HeldSet.{the_row};
 ghost use Rattle.c_sets.specs.Making.{AreNames, IsAnswerIn, IsEmpty, IsMade, IsWith, IsWithSet, IsWithout, load_of};
 ghost use Rattle.c_sets.specs.Making.{IsSetAnswer, name_number, set_in, set_number, version_in};
 
@@ -34,8 +37,17 @@ pub enum Origin {
 #[derive(Drop)]
 pub struct HeldSet {
     pub origin: Origin,
-    /// The number of why there is no set, or of why the reader's last call failed (`numbers`); otherwise `NO_FAULT`.
+    /// The number (`c_answers::numbers`) of why there is no set, or of why the reader's last call failed; otherwise
+    /// `NO_FAULT`.
     pub fault: u32,
+}
+
+/// The number of bytes that C allocates for a set. `malloc` aligns them well enough.
+pub fn set_size() -> usize
+    ensures size { result ≡ size (layout the_row) }
+    ensures alignment { align (layout the_row) ≤ 16 }
+{
+    std::mem::size_of::<HeldSet>()
 }
 
 /// The set, unless it was refused.

@@ -5,6 +5,6 @@ mod stores;
 
 pub use stores::{
     HeldEntrance, HeldNotice, HeldStore, all_may_go, close_entrance, close_notice, close_store,
-    enter, enter_after, entrance, is_current, leave, load, notice, open, publish, reader_from,
-    reclaim, store_number,
+    enter, enter_after, entrance, entrance_size, is_current, leave, load, notice, notice_size,
+    open, publish, reader_from, reclaim, store_number, store_size,
 };

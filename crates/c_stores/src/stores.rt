@@ -1,6 +1,8 @@
-//! Live stores, readers and notices as C holds them. A reader is a set (`sets`), that of its version.
+//! Live stores, readers and notices as C holds them. A reader is a set (`c_sets`), that of its version.
 ghost use Rattle.std.specs.Prelude.{◌≡◌, ◌≤◌, Some, None, IfErr, OnErr, OnOk};
 ghost use Rattle.std.specs.Arc.{arc_value};
+ghost use denote.Param.{layout};
+ghost use prog.Memory.{align, size};
 ghost use Rattle.live_loads.specs.Store.{AddsLoad};
 ghost use Rattle.snapshot_store.specs.Holding.{IsRefusedShared};
 ghost use Rattle.c_answers.specs.Numbers.{busy_fault, memory_fault, no_fault};
@@ -10,6 +12,9 @@ ghost use Rattle.c_stores.specs.Storing.{IsEntranceOf, IsNewStore, IsNoticeOf, I
 ghost use Rattle.c_stores.specs.Storing.{IsReaderFrom, IsStoreNumber, load_number, publish_number};
 ghost use Rattle.c_stores.specs.Storing.{store_pending, store_version};
 ghost use Rattle.c_sets.specs.declared.sets.Origin.TheVariants.{Left, Lent};
+ghost use Rattle.c_stores.specs.contracts.stores.HeldStore.{the_row as store_row};
+ghost use Rattle.c_stores.specs.contracts.stores.HeldNotice.{the_row as notice_row};
+ghost use Rattle.c_stores.specs.contracts.stores.HeldEntrance.{the_row as entrance_row};
 
 use c_answers::Opened;
 use c_answers::numbers::{
@@ -28,7 +33,7 @@ use std::sync::Arc;
 #[derive(Drop)]
 pub struct HeldStore {
     pub publisher: Option<Publisher>,
-    /// The number of why the last call was refused (`numbers`); `NO_FAULT` if it wasn't.
+    /// The number of why the last call was refused (`c_answers::numbers`); `NO_FAULT` if it wasn't.
     pub fault: u32,
 }
 
@@ -42,6 +47,30 @@ pub struct HeldNotice {
 #[derive(Drop)]
 pub struct HeldEntrance {
     pub entrance: Option<Entrance>,
+}
+
+/// The number of bytes that C allocates for a live store. `malloc` aligns them well enough.
+pub fn store_size() -> usize
+    ensures size { result ≡ size (layout store_row) }
+    ensures alignment { align (layout store_row) ≤ 16 }
+{
+    std::mem::size_of::<HeldStore>()
+}
+
+/// The number of bytes that C allocates for a notice. `malloc` aligns them well enough.
+pub fn notice_size() -> usize
+    ensures size { result ≡ size (layout notice_row) }
+    ensures alignment { align (layout notice_row) ≤ 16 }
+{
+    std::mem::size_of::<HeldNotice>()
+}
+
+/// The number of bytes that C allocates for an entrance. `malloc` aligns them well enough.
+pub fn entrance_size() -> usize
+    ensures size { result ≡ size (layout entrance_row) }
+    ensures alignment { align (layout entrance_row) ≤ 16 }
+{
+    std::mem::size_of::<HeldEntrance>()
 }
 
 fn store_of(publisher: Publisher, fault: u32) -> HeldStore

@@ -58,7 +58,7 @@ pub extern "C" fn kobdzila_size() -> usize
     ensures size { result ≡ size (layout the_row) }
     ensures alignment { align (layout the_row) ≤ 16 }
 {
-    std::mem::size_of::<Opened>()
+    c_answers::opened_size()
 }
 
 /// Opens an MO file, and writes its catalogue, or why it is refused, to `out`. If `strict` isn't 0 its revision must be
@@ -103,10 +103,10 @@ pub unsafe extern "C" fn kobdzila_close(held: *mut Opaque)
     c_answers::close((held as *mut Opened).read());
 }
 
-/// A number (`numbers`) of what is at `held`: its `FAULT`, the fault's `LINE`, the `COUNT` of its entries, or how many
-/// entries of its PO text, the header aside, are `TRANSLATED`, `FUZZY` or `UNTRANSLATED`; those three are 0 for an MO
-/// file. For entry `i` it is the number of `FORMS`, or 1 if it `HAS_CONTEXT` or `HAS_PLURAL`. Any other number is 0,
-/// and so is one of an entry that isn't there.
+/// A number (`c_answers::numbers`) of what is at `held`: its `FAULT`, the fault's `LINE`, the `COUNT` of its entries,
+/// or how many entries of its PO text, the header aside, are `TRANSLATED`, `FUZZY` or `UNTRANSLATED`; those three are 0
+/// for an MO file. For entry `i` it is the number of `FORMS`, or 1 if it `HAS_CONTEXT` or `HAS_PLURAL`. Any other
+/// number is 0, and so is one of an entry that isn't there.
 #[unsafe(no_mangle)]
 pub unsafe extern "C" fn kobdzila_number(held: *const Opaque, which: u32, i: u64) -> u64
     ghost g: { Lft × Share × Held }
@@ -116,9 +116,9 @@ pub unsafe extern "C" fn kobdzila_number(held: *const Opaque, which: u32, i: u64
     c_answers::number(&*(held as *const Opened), which, i)
 }
 
-/// Writes a string (`numbers`) of what is at `held` to `out`: its MO file is `FILE_BYTES`. For entry `i` it is the
-/// `CONTEXT`, the `MSGID`, the `PLURAL`, or `FORM` `k`. If there is no such string, it is empty. None of them includes
-/// a terminating NUL.
+/// Writes a string (`c_answers::numbers`) of what is at `held` to `out`: its MO file is `FILE_BYTES`. For entry `i` it
+/// is the `CONTEXT`, the `MSGID`, the `PLURAL`, or `FORM` `k`. If there is no such string, it is empty. None of them
+/// includes a terminating NUL.
 #[unsafe(no_mangle)]
 pub unsafe extern "C" fn kobdzila_text(
     held: *const Opaque,
@@ -199,7 +199,7 @@ pub extern "C" fn kobdzila_set_size() -> usize
     ensures size { result ≡ size (layout set_row) }
     ensures alignment { align (layout set_row) ≤ 16 }
 {
-    std::mem::size_of::<HeldSet>()
+    c_sets::set_size()
 }
 
 /// Writes the empty set to `out`.
@@ -247,8 +247,8 @@ pub unsafe extern "C" fn kobdzila_set_close(held: *mut OpaqueSet)
     c_sets::close_set((held as *mut HeldSet).read());
 }
 
-/// A number (`numbers`) of the set at `held`: its `FAULT`, or its `VERSION`, which is how many catalogues were added to
-/// it, replaced ones included.
+/// A number (`c_answers::numbers`) of the set at `held`: its `FAULT`, or its `VERSION`, which is how many catalogues
+/// were added to it, replaced ones included.
 #[unsafe(no_mangle)]
 pub unsafe extern "C" fn kobdzila_set_number(held: *const OpaqueSet, which: u32) -> u64
     ghost g: { Lft × Share × ASet }
@@ -369,7 +369,7 @@ pub extern "C" fn kobdzila_store_size() -> usize
     ensures size { result ≡ size (layout store_row) }
     ensures alignment { align (layout store_row) ≤ 16 }
 {
-    std::mem::size_of::<HeldStore>()
+    c_stores::store_size()
 }
 
 /// The number of bytes that C allocates for a notice. `malloc` aligns them well enough.
@@ -378,7 +378,7 @@ pub extern "C" fn kobdzila_notice_size() -> usize
     ensures size { result ≡ size (layout notice_row) }
     ensures alignment { align (layout notice_row) ≤ 16 }
 {
-    std::mem::size_of::<HeldNotice>()
+    c_stores::notice_size()
 }
 
 /// The number of bytes that C allocates for an entrance. `malloc` aligns them well enough.
@@ -387,7 +387,7 @@ pub extern "C" fn kobdzila_entrance_size() -> usize
     ensures size { result ≡ size (layout entrance_row) }
     ensures alignment { align (layout entrance_row) ≤ 16 }
 {
-    std::mem::size_of::<HeldEntrance>()
+    c_stores::entrance_size()
 }
 
 /// Writes a store in which nothing is published to `out`, or none if memory runs out.
@@ -442,8 +442,8 @@ pub unsafe extern "C" fn kobdzila_store_reclaim(held: *mut OpaqueStore)
     (held as *mut HeldStore).write(c_stores::reclaim((held as *mut HeldStore).read()));
 }
 
-/// A number (`numbers`) of the store at `held`: the `FAULT` of the last call, its `VERSION`, which is how many loads
-/// are published, how many are `PENDING`, or how many replaced versions aren't freed (`RETAINED`).
+/// A number (`c_answers::numbers`) of the store at `held`: the `FAULT` of the last call, its `VERSION`, which is how
+/// many loads are published, how many are `PENDING`, or how many replaced versions aren't freed (`RETAINED`).
 #[unsafe(no_mangle)]
 pub unsafe extern "C" fn kobdzila_store_number(held: *const OpaqueStore, which: u32) -> u64
     ghost g: { Lft × Share × AStore }
@@ -574,7 +574,7 @@ pub extern "C" fn kobdzila_output_size() -> usize
     ensures size { result ≡ size (layout output_row) }
     ensures alignment { align (layout output_row) ≤ 16 }
 {
-    std::mem::size_of::<HeldOutput>()
+    c_outputs::output_size()
 }
 
 /// Writes the PO text of the catalogue at `held` to `out`, or why there is none. If `escape` isn't 0, bytes other than
@@ -609,9 +609,9 @@ pub unsafe extern "C" fn kobdzila_format_faults(
     (out as *mut HeldOutput).write(c_outputs::check_formats(alloc, bytes, checked, use_fuzzy));
 }
 
-/// A number (`numbers`) of the output at `held`: its `FAULT`, the fault's `LINE`, or the `COUNT` of the faults in it.
-/// For fault `place` it is its `FAULT_LINE`, `FAULT_LANGUAGE`, `FAULT_FORM` or `FAULT_DIFFERENCE`. Any other number is
-/// 0, and so is one of a fault that isn't there.
+/// A number (`c_answers::numbers`) of the output at `held`: its `FAULT`, the fault's `LINE`, or the `COUNT` of the
+/// faults in it. For fault `place` it is its `FAULT_LINE`, `FAULT_LANGUAGE`, `FAULT_FORM` or `FAULT_DIFFERENCE`. Any
+/// other number is 0, and so is one of a fault that isn't there.
 #[unsafe(no_mangle)]
 pub unsafe extern "C" fn kobdzila_output_number(
     held: *const OpaqueOutput,
