@@ -2,7 +2,8 @@
 # Calls the live store of libkobdzila: each function and each refusal, and with each request for memory refused
 # (tests/library/c_store.c); from 16 threads while two catalogues are published over and over, also by a thread that is
 # stopped anywhere, and from four threads that publish (tests/library/c_store_threads.c). All of it by itself, under
-# valgrind and with the sanitizers.
+# valgrind and with the sanitizers. Then: the numbers that the exports tell, and the header's functions don't
+# (tests/library/c_exports.c).
 no_program=1
 . "$(dirname "$0")/../lib/common"
 . tests/lib/c_common
@@ -56,6 +57,14 @@ if sanitized "$name, sanitized" address,undefined; then
     in_one_thread sanitized sanitized env
     in_threads sanitized 1000 env
   fi
+fi
+
+# numbers of the exports that no function of the header returns
+name='the numbers that the exports of a store tell'
+if tools/machine_archive "$room/machine.a" cc -std=c11 -O2 > "$room/log" 2>&1 &&
+  compiles "$name" exports tests/library/c_exports.c -Ic/library crates/kobdzila_c/out/libkobdzila_c.a "$room/machine.a" \
+    -Wl,--wrap=malloc,--wrap=realloc; then
+  runs "$name" "$room/exports"
 fi
 
 # the programs of the man page: a look-up, and eight threads that look up while two catalogues are replaced

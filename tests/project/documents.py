@@ -161,7 +161,7 @@ def faults_of_the_header():
             constant = re.sub(r"(?<!^)(?=[A-Z])", "_", name.split("(")[0]).upper().replace("U_T_F", "UTF")
             wanted[f"KOB_{front}_{constant}"] = (first + number, re.sub(r" at \{0\}", "", text))
     revised = [("Tables", dict((name, text) for text, name in variants(*REVISED))["Tables"]), *kinds(*DEPENDENT).values()]
-    code = read("crates/kobdzila_c/src/numbers.rt")
+    code = read("crates/c_answers/src/numbers.rt")
     numbers = {name: int(number) for name, number in re.findall(r" (DEPENDENT_\w+): u32 = (\d+);", code)}
     for name, text in revised:
         constant = "DEPENDENT_" + re.sub(r"(?<!^)(?=[A-Z])", "_", name).upper()

@@ -10,26 +10,26 @@ use denote.RattleType.{RattleType}
 use denote.Slice.{ShrSlice}
 use denote.Struct.Lending.{lent_at}
 use Rattle.po_checks.specs.declared.options.Options.{Options}
-use Rattle.kobdzila_c.specs.declared.opened.Opened.{Opened}
-use Rattle.kobdzila_c.specs.contracts.opened.Opened.{the_row}
-use Rattle.kobdzila_c.specs.declared.sets.HeldSet.{HeldSet}
-use Rattle.kobdzila_c.specs.contracts.sets.HeldSet.{the_row as set_row}
-use Rattle.kobdzila_c.specs.declared.stores.HeldStore.{HeldStore}
-use Rattle.kobdzila_c.specs.contracts.stores.HeldStore.{the_row as store_row}
-use Rattle.kobdzila_c.specs.declared.stores.HeldNotice.{HeldNotice}
-use Rattle.kobdzila_c.specs.contracts.stores.HeldNotice.{the_row as notice_row}
-use Rattle.kobdzila_c.specs.declared.stores.HeldEntrance.{HeldEntrance}
-use Rattle.kobdzila_c.specs.contracts.stores.HeldEntrance.{the_row as entrance_row}
-use Rattle.kobdzila_c.specs.declared.outputs.HeldOutput.{HeldOutput}
-use Rattle.kobdzila_c.specs.contracts.outputs.HeldOutput.{the_row as output_row}
+use Rattle.c_answers.specs.declared.opened.Opened.{Opened}
+use Rattle.c_answers.specs.contracts.opened.Opened.{the_row}
+use Rattle.c_sets.specs.declared.sets.HeldSet.{HeldSet}
+use Rattle.c_sets.specs.contracts.sets.HeldSet.{the_row as set_row}
+use Rattle.c_stores.specs.declared.stores.HeldStore.{HeldStore}
+use Rattle.c_stores.specs.contracts.stores.HeldStore.{the_row as store_row}
+use Rattle.c_stores.specs.declared.stores.HeldNotice.{HeldNotice}
+use Rattle.c_stores.specs.contracts.stores.HeldNotice.{the_row as notice_row}
+use Rattle.c_stores.specs.declared.stores.HeldEntrance.{HeldEntrance}
+use Rattle.c_stores.specs.contracts.stores.HeldEntrance.{the_row as entrance_row}
+use Rattle.c_outputs.specs.declared.outputs.HeldOutput.{HeldOutput}
+use Rattle.c_outputs.specs.contracts.outputs.HeldOutput.{the_row as output_row}
 use Rattle.live_set.specs.declared.places.Places.{Places}
 use Rattle.live_set.specs.contracts.places.Places.{the_row as places_row}
-use Rattle.kobdzila_c.specs.Answering.{IsClosedAnswer, Question, map_of}
-use Rattle.kobdzila_c.specs.Listing.{text}
-use Rattle.kobdzila_c.specs.Making.{IsSetAnswer}
-use Rattle.kobdzila_c.specs.Opening.{IsOpenedMo, IsOpenedPo}
-use Rattle.kobdzila_c.specs.NamedPlaces.{IsSetAnswerAt}
-use Rattle.kobdzila_c.specs.Outputs.{text_in}
+use Rattle.c_answers.specs.Answering.{IsClosedAnswer, Question, map_of}
+use Rattle.c_answers.specs.Listing.{text}
+use Rattle.c_sets.specs.Making.{IsSetAnswer}
+use Rattle.c_opening.specs.Opening.{IsOpenedMo, IsOpenedPo}
+use Rattle.c_sets.specs.NamedPlaces.{IsSetAnswerAt}
+use Rattle.c_outputs.specs.Outputs.{text_in}
 
 -- what was opened is at p, and its holder alone may use it
 abbrev pub holds : Ptr → Opened → Fml

@@ -11,49 +11,41 @@ ghost use denote.RawPtr.{room_at};
 ghost use prog.Memory.{align, size};
 ghost use types.Logic.{sem};
 ghost use Rattle.live_set.specs.Names.{IsName};
-ghost use Rattle.kobdzila_c.specs.contracts.opened.Opened.{the_row};
-ghost use Rattle.kobdzila_c.specs.declared.opened.Opened.{Opened as Held};
-ghost use Rattle.kobdzila_c.specs.Answering.{question};
-ghost use Rattle.kobdzila_c.specs.contracts.sets.HeldSet.{the_row as set_row};
-ghost use Rattle.kobdzila_c.specs.declared.sets.HeldSet.{HeldSet as ASet};
-ghost use Rattle.kobdzila_c.specs.Listing.{number};
-ghost use Rattle.kobdzila_c.specs.Making.{IsEmpty, IsWith, set_number};
-ghost use Rattle.kobdzila_c.specs.Opening.{options_of};
-ghost use Rattle.kobdzila_c.specs.Shared.{Text, answered, holds, listed, mo_opened_at, po_opened_at, reads};
-ghost use Rattle.kobdzila_c.specs.Shared.{holds_set, reads_set, set_answered, set_at};
-ghost use Rattle.kobdzila_c.specs.contracts.stores.HeldStore.{the_row as store_row};
-ghost use Rattle.kobdzila_c.specs.declared.stores.HeldStore.{HeldStore as AStore};
-ghost use Rattle.kobdzila_c.specs.contracts.stores.HeldNotice.{the_row as notice_row};
-ghost use Rattle.kobdzila_c.specs.declared.stores.HeldNotice.{HeldNotice as ANotice};
-ghost use Rattle.kobdzila_c.specs.Storing.{AreOfOne, IsEntered, IsEnteredAfter, IsLoaded, IsNewStore, IsNoticeOf};
-ghost use Rattle.kobdzila_c.specs.contracts.stores.HeldEntrance.{the_row as entrance_row};
-ghost use Rattle.kobdzila_c.specs.declared.stores.HeldEntrance.{HeldEntrance as AnEntrance};
-ghost use Rattle.kobdzila_c.specs.Storing.{IsEntranceOf, IsPublished, IsReaderFrom, IsStoreNumber};
-ghost use Rattle.kobdzila_c.specs.Storing.{IsLeft, IsReclaimed};
 ghost use Rattle.live_set.specs.contracts.places.Places.{the_row as places_row};
-ghost use Rattle.kobdzila_c.specs.NamedPlaces.{AreSetPlaces};
-ghost use Rattle.kobdzila_c.specs.Shared.{places_at, set_answered_at};
+ghost use Rattle.c_answers.specs.Answering.{question};
+ghost use Rattle.c_answers.specs.Listing.{number};
+ghost use Rattle.c_answers.specs.contracts.opened.Opened.{the_row};
+ghost use Rattle.c_answers.specs.declared.opened.Opened.{Opened as Held};
+ghost use Rattle.c_opening.specs.Opening.{options_of};
+ghost use Rattle.c_outputs.specs.Outputs.{IsFormatFaults, IsPoText, output_number};
+ghost use Rattle.c_outputs.specs.contracts.outputs.HeldOutput.{the_row as output_row};
+ghost use Rattle.c_outputs.specs.declared.outputs.HeldOutput.{HeldOutput as AnOutput};
+ghost use Rattle.c_sets.specs.Making.{IsEmpty, IsWith, set_number};
+ghost use Rattle.c_sets.specs.NamedPlaces.{AreSetPlaces};
+ghost use Rattle.c_sets.specs.contracts.sets.HeldSet.{the_row as set_row};
+ghost use Rattle.c_sets.specs.declared.sets.HeldSet.{HeldSet as ASet};
+ghost use Rattle.c_stores.specs.Storing.{AreOfOne, IsEntered, IsEnteredAfter, IsLoaded, IsNewStore, IsNoticeOf};
+ghost use Rattle.c_stores.specs.Storing.{IsEntranceOf, IsPublished, IsReaderFrom, IsStoreNumber};
+ghost use Rattle.c_stores.specs.Storing.{IsLeft, IsReclaimed};
+ghost use Rattle.c_stores.specs.contracts.stores.HeldStore.{the_row as store_row};
+ghost use Rattle.c_stores.specs.declared.stores.HeldStore.{HeldStore as AStore};
+ghost use Rattle.c_stores.specs.contracts.stores.HeldNotice.{the_row as notice_row};
+ghost use Rattle.c_stores.specs.declared.stores.HeldNotice.{HeldNotice as ANotice};
+ghost use Rattle.c_stores.specs.contracts.stores.HeldEntrance.{the_row as entrance_row};
+ghost use Rattle.c_stores.specs.declared.stores.HeldEntrance.{HeldEntrance as AnEntrance};
+ghost use Rattle.kobdzila_c.specs.Shared.{Text, answered, holds, listed, mo_opened_at, po_opened_at, reads};
+ghost use Rattle.kobdzila_c.specs.Shared.{holds_set, places_at, reads_set, set_answered, set_answered_at, set_at};
+ghost use Rattle.kobdzila_c.specs.Shared.{holds_store, reads_store, store_at};
+ghost use Rattle.kobdzila_c.specs.Shared.{holds_notice, notice_at, reads_notice};
 ghost use Rattle.kobdzila_c.specs.Shared.{entrance_at, holds_entrance, reads_entrance};
-ghost use Rattle.kobdzila_c.specs.Shared.{holds_notice, holds_store, notice_at, reads_notice, reads_store, store_at};
-ghost use Rattle.kobdzila_c.specs.contracts.outputs.HeldOutput.{the_row as output_row};
-ghost use Rattle.kobdzila_c.specs.declared.outputs.HeldOutput.{HeldOutput as AnOutput};
-ghost use Rattle.kobdzila_c.specs.Outputs.{IsFormatFaults, IsPoText, output_number};
 ghost use Rattle.kobdzila_c.specs.Shared.{holds_output, output_at, reads_output, text_lent};
 
-mod answers;
-mod numbers;
-mod opened;
-mod outputs;
-mod places;
-mod sets;
-mod stores;
-
+use c_answers::Opened;
+use c_outputs::HeldOutput;
+use c_sets::HeldSet;
+use c_stores::{HeldEntrance, HeldNotice, HeldStore};
 use live_set::Places;
-pub use opened::Opened;
-pub use outputs::{HeldOutput, Output};
-pub use sets::{HeldSet, Origin};
 use std::alloc::Global;
-pub use stores::{HeldEntrance, HeldNotice, HeldStore};
 
 /// The type that C's pointers to a catalogue have. C must not read or write its bytes.
 pub struct Opaque {
@@ -66,7 +58,7 @@ pub extern "C" fn kobdzila_size() -> usize
     ensures size { result ≡ size (layout the_row) }
     ensures alignment { align (layout the_row) ≤ 16 }
 {
-    std::mem::size_of::<Opened>()
+    c_answers::opened_size()
 }
 
 /// Opens an MO file, and writes its catalogue, or why it is refused, to `out`. If `strict` isn't 0 its revision must be
@@ -81,7 +73,7 @@ pub unsafe extern "C" fn kobdzila_open_mo(
     requires* { sem 𝓛 (room_at the_row out) }
     ensures* { sem 𝓛 (mo_opened_at out bytes.now (nat_lt 0 strict)) }
 {
-    (out as *mut Opened).write(opened::open_mo(alloc, bytes, strict));
+    (out as *mut Opened).write(c_opening::open_mo(alloc, bytes, strict));
 }
 
 /// Compiles a PO text, and writes its catalogue, or why it is refused, to `out`. An option is on if its argument isn't
@@ -98,7 +90,7 @@ pub unsafe extern "C" fn kobdzila_open_po(
     requires* { sem 𝓛 (room_at the_row out) }
     ensures* { sem 𝓛 (po_opened_at out bytes.now (options_of checked use_fuzzy) (nat_lt 0 strict)) }
 {
-    (out as *mut Opened).write(opened::open_po(alloc, bytes, checked, use_fuzzy, strict));
+    (out as *mut Opened).write(c_opening::open_po(alloc, bytes, checked, use_fuzzy, strict));
 }
 
 /// Drops the catalogue at `held`, and gives its memory back to C.
@@ -108,25 +100,25 @@ pub unsafe extern "C" fn kobdzila_close(held: *mut Opaque)
     requires* { sem 𝓛 (holds held value) }
     ensures* { sem 𝓛 (room_at the_row held) }
 {
-    opened::close((held as *mut Opened).read());
+    c_answers::close((held as *mut Opened).read());
 }
 
-/// A number (`numbers`) of what is at `held`: its `FAULT`, the fault's `LINE`, the `COUNT` of its entries, or how many
-/// entries of its PO text, the header aside, are `TRANSLATED`, `FUZZY` or `UNTRANSLATED`; those three are 0 for an MO
-/// file. For entry `i` it is the number of `FORMS`, or 1 if it `HAS_CONTEXT` or `HAS_PLURAL`. Any other number is 0,
-/// and so is one of an entry that isn't there.
+/// A number (`c_answers::numbers`) of what is at `held`: its `FAULT`, the fault's `LINE`, the `COUNT` of its entries,
+/// or how many entries of its PO text, the header aside, are `TRANSLATED`, `FUZZY` or `UNTRANSLATED`; those three are 0
+/// for an MO file. For entry `i` it is the number of `FORMS`, or 1 if it `HAS_CONTEXT` or `HAS_PLURAL`. Any other
+/// number is 0, and so is one of an entry that isn't there.
 #[unsafe(no_mangle)]
 pub unsafe extern "C" fn kobdzila_number(held: *const Opaque, which: u32, i: u64) -> u64
     ghost g: { Lft × Share × Held }
     requires* { sem 𝓛 (reads g.0 g.1 held g.2) }
     ensures* { sem 𝓛 (flft g.0 g.1) ∗ ⌜ result ≡ number g.2 which i ⌝ }
 {
-    answers::number(&*(held as *const Opened), which, i)
+    c_answers::number(&*(held as *const Opened), which, i)
 }
 
-/// Writes a string (`numbers`) of what is at `held` to `out`: its MO file is `FILE_BYTES`. For entry `i` it is the
-/// `CONTEXT`, the `MSGID`, the `PLURAL`, or `FORM` `k`. If there is no such string, it is empty. None of them includes
-/// a terminating NUL.
+/// Writes a string (`c_answers::numbers`) of what is at `held` to `out`: its MO file is `FILE_BYTES`. For entry `i` it
+/// is the `CONTEXT`, the `MSGID`, the `PLURAL`, or `FORM` `k`. If there is no such string, it is empty. None of them
+/// includes a terminating NUL.
 #[unsafe(no_mangle)]
 pub unsafe extern "C" fn kobdzila_text(
     held: *const Opaque,
@@ -139,7 +131,7 @@ pub unsafe extern "C" fn kobdzila_text(
     requires* { sem 𝓛 (reads g.0 g.1 held g.2) ∗ sem 𝓛 (room_at (Text g.0) out) }
     ensures* { sem 𝓛 (flft g.0 g.1) ∗ sem 𝓛 (listed g.0 out g.2 part i k) }
 {
-    *out = answers::text(&*(held as *const Opened), part, i, k);
+    *out = c_answers::text(&*(held as *const Opened), part, i, k);
 }
 
 /// Returns a hint for `kobdzila_answer`: a number with which it takes less time. To answer many calls, first get the
@@ -155,7 +147,7 @@ pub unsafe extern "C" fn kobdzila_hint(
     requires* { sem 𝓛 (reads g.0 g.1 held g.2) }
     ensures* { sem 𝓛 (flft g.0 g.1) }
 {
-    answers::hint(&*(held as *const Opened), context, id, call)
+    c_answers::hint(&*(held as *const Opened), context, id, call)
 }
 
 /// Writes the answer to a call to `out`, with its terminating NUL, or no bytes if there is no such entry. The calls are
@@ -175,7 +167,7 @@ pub unsafe extern "C" fn kobdzila_answer(
     requires* { sem 𝓛 (reads g.0 g.1 held g.2) ∗ sem 𝓛 (room_at (Text g.0) out) }
     ensures* { sem 𝓛 (flft g.0 g.1) ∗ sem 𝓛 (answered g.0 out g.2 (question call context.now id.now n)) }
 {
-    *out = answers::answer(&*(held as *const Opened), context, id, call, n, hint);
+    *out = c_answers::answer(&*(held as *const Opened), context, id, call, n, hint);
 }
 
 /// Like `kobdzila_answer` for gettext, the call that programs make most.
@@ -185,7 +177,7 @@ pub unsafe extern "C" fn kobdzila_gettext(held: *const Opaque, id: &[u8], out: *
     requires* { sem 𝓛 (reads g.0 g.1 held g.2) ∗ sem 𝓛 (room_at (Text g.0) out) }
     ensures* { sem 𝓛 (flft g.0 g.1) ∗ sem 𝓛 (answered g.0 out g.2 (question 0 [] id.now 0)) }
 {
-    *out = answers::gettext(&*(held as *const Opened), id);
+    *out = c_answers::gettext(&*(held as *const Opened), id);
 }
 
 /// The type that C's pointers to a set have. C must not read or write its bytes.
@@ -198,7 +190,7 @@ pub struct OpaqueSet {
 pub extern "C" fn kobdzila_is_name(bytes: &[u8]) -> bool
     ensures { IsTrue result ↔ IsName bytes.now }
 {
-    sets::is_name_of(bytes)
+    c_sets::is_name_of(bytes)
 }
 
 /// The number of bytes that C allocates for a set of catalogues. `malloc` aligns them well enough.
@@ -207,7 +199,7 @@ pub extern "C" fn kobdzila_set_size() -> usize
     ensures size { result ≡ size (layout set_row) }
     ensures alignment { align (layout set_row) ≤ 16 }
 {
-    std::mem::size_of::<HeldSet>()
+    c_sets::set_size()
 }
 
 /// Writes the empty set to `out`.
@@ -216,7 +208,7 @@ pub unsafe extern "C" fn kobdzila_set_new(alloc: Global, out: *mut OpaqueSet)
     requires* { sem 𝓛 (room_at set_row out) }
     ensures* { sem 𝓛 (set_at out IsEmpty) }
 {
-    (out as *mut HeldSet).write(sets::new_set(alloc));
+    (out as *mut HeldSet).write(c_sets::new_set(alloc));
 }
 
 /// Writes to `out` the set at `held` with one more catalogue, that at `catalogue`, or why there is none. The catalogue
@@ -236,7 +228,7 @@ pub unsafe extern "C" fn kobdzila_set_with(
     ensures* { (sem 𝓛 (flft g.0 g.1) ∗ sem 𝓛 (flft g.3 g.4))
         ∗ sem 𝓛 (set_at out (IsWith g.2 domain.now locale.now g.5)) }
 {
-    (out as *mut HeldSet).write(sets::with_one(
+    (out as *mut HeldSet).write(c_sets::with_one(
         alloc,
         &*(held as *const HeldSet),
         domain,
@@ -252,18 +244,18 @@ pub unsafe extern "C" fn kobdzila_set_close(held: *mut OpaqueSet)
     requires* { sem 𝓛 (holds_set held value) }
     ensures* { sem 𝓛 (room_at set_row held) }
 {
-    sets::close_set((held as *mut HeldSet).read());
+    c_sets::close_set((held as *mut HeldSet).read());
 }
 
-/// A number (`numbers`) of the set at `held`: its `FAULT`, or its `VERSION`, which is how many catalogues were added to
-/// it, replaced ones included.
+/// A number (`c_answers::numbers`) of the set at `held`: its `FAULT`, or its `VERSION`, which is how many catalogues
+/// were added to it, replaced ones included.
 #[unsafe(no_mangle)]
 pub unsafe extern "C" fn kobdzila_set_number(held: *const OpaqueSet, which: u32) -> u64
     ghost g: { Lft × Share × ASet }
     requires* { sem 𝓛 (reads_set g.0 g.1 held g.2) }
     ensures* { sem 𝓛 (flft g.0 g.1) ∗ ⌜ result ≡ set_number g.2 which ⌝ }
 {
-    sets::set_number(&*(held as *const HeldSet), which)
+    c_sets::set_number(&*(held as *const HeldSet), which)
 }
 
 /// Writes the answer to a call in a text domain and a list of languages to `out`, with its terminating NUL, or no bytes
@@ -284,7 +276,7 @@ pub unsafe extern "C" fn kobdzila_set_answer(
     ensures* { sem 𝓛 (flft g.0 g.1) ∗ sem 𝓛 (set_answered g.0 out g.2 domain.now languages.now
         (question call context.now id.now n)) }
 {
-    *out = sets::set_answer(
+    *out = c_sets::set_answer(
         &*(held as *const HeldSet),
         domain,
         languages,
@@ -308,7 +300,7 @@ pub unsafe extern "C" fn kobdzila_set_languages(
     requires* { sem 𝓛 (reads_set g.0 g.1 held g.2) ∗ sem 𝓛 (room_at places_row out) }
     ensures* { sem 𝓛 (flft g.0 g.1) ∗ sem 𝓛 (places_at out (AreSetPlaces g.2 domain.now languages.now)) }
 {
-    out.write(places::set_places(&*(held as *const HeldSet), domain, languages));
+    out.write(c_sets::set_places(&*(held as *const HeldSet), domain, languages));
 }
 
 /// Returns a hint for `kobdzila_set_answer_at`, as `kobdzila_hint` does for `kobdzila_answer`.
@@ -324,7 +316,7 @@ pub unsafe extern "C" fn kobdzila_set_hint(
     requires* { sem 𝓛 (reads_set g.0 g.1 held g.2) }
     ensures* { sem 𝓛 (flft g.0 g.1) }
 {
-    places::set_hint(&*(held as *const HeldSet), places, context, id, call)
+    c_sets::set_hint(&*(held as *const HeldSet), places, context, id, call)
 }
 
 /// Like `kobdzila_set_answer`, from the first of these places that has such an entry. A place where there is no
@@ -345,7 +337,7 @@ pub unsafe extern "C" fn kobdzila_set_answer_at(
     ensures* { sem 𝓛 (flft g.0 g.1) ∗ sem 𝓛 (set_answered_at g.0 out g.2 places.now
         (question call context.now id.now n)) }
 {
-    *out = places::set_answer_at(
+    *out = c_sets::set_answer_at(
         &*(held as *const HeldSet),
         places,
         context,
@@ -377,7 +369,7 @@ pub extern "C" fn kobdzila_store_size() -> usize
     ensures size { result ≡ size (layout store_row) }
     ensures alignment { align (layout store_row) ≤ 16 }
 {
-    std::mem::size_of::<HeldStore>()
+    c_stores::store_size()
 }
 
 /// The number of bytes that C allocates for a notice. `malloc` aligns them well enough.
@@ -386,7 +378,7 @@ pub extern "C" fn kobdzila_notice_size() -> usize
     ensures size { result ≡ size (layout notice_row) }
     ensures alignment { align (layout notice_row) ≤ 16 }
 {
-    std::mem::size_of::<HeldNotice>()
+    c_stores::notice_size()
 }
 
 /// The number of bytes that C allocates for an entrance. `malloc` aligns them well enough.
@@ -395,7 +387,7 @@ pub extern "C" fn kobdzila_entrance_size() -> usize
     ensures size { result ≡ size (layout entrance_row) }
     ensures alignment { align (layout entrance_row) ≤ 16 }
 {
-    std::mem::size_of::<HeldEntrance>()
+    c_stores::entrance_size()
 }
 
 /// Writes a store in which nothing is published to `out`, or none if memory runs out.
@@ -404,7 +396,7 @@ pub unsafe extern "C" fn kobdzila_store_open(alloc: Global, out: *mut OpaqueStor
     requires* { sem 𝓛 (room_at store_row out) }
     ensures* { sem 𝓛 (store_at out IsNewStore) }
 {
-    (out as *mut HeldStore).write(stores::open(alloc));
+    (out as *mut HeldStore).write(c_stores::open(alloc));
 }
 
 /// Makes the catalogue at `catalogue` pending in the store at `held`, or refuses it, which changes nothing. The store
@@ -421,7 +413,7 @@ pub unsafe extern "C" fn kobdzila_store_load(
     requires* { sem 𝓛 (holds_store held g.3) ∗ sem 𝓛 (reads g.0 g.1 catalogue g.2) }
     ensures* { sem 𝓛 (flft g.0 g.1) ∗ sem 𝓛 (store_at held (IsLoaded g.3 domain.now locale.now g.2)) }
 {
-    (held as *mut HeldStore).write(stores::load(
+    (held as *mut HeldStore).write(c_stores::load(
         alloc,
         domain,
         locale,
@@ -437,7 +429,7 @@ pub unsafe extern "C" fn kobdzila_store_publish(alloc: Global, held: *mut Opaque
     requires* { sem 𝓛 (holds_store held value) }
     ensures* { sem 𝓛 (store_at held (IsPublished value)) }
 {
-    (held as *mut HeldStore).write(stores::publish(alloc, (held as *mut HeldStore).read()));
+    (held as *mut HeldStore).write(c_stores::publish(alloc, (held as *mut HeldStore).read()));
 }
 
 /// Frees the replaced versions of the store at `held` that no reader has. The store is as it was.
@@ -447,18 +439,18 @@ pub unsafe extern "C" fn kobdzila_store_reclaim(held: *mut OpaqueStore)
     requires* { sem 𝓛 (holds_store held value) }
     ensures* { sem 𝓛 (store_at held (IsReclaimed value)) }
 {
-    (held as *mut HeldStore).write(stores::reclaim((held as *mut HeldStore).read()));
+    (held as *mut HeldStore).write(c_stores::reclaim((held as *mut HeldStore).read()));
 }
 
-/// A number (`numbers`) of the store at `held`: the `FAULT` of the last call, its `VERSION`, which is how many loads
-/// are published, how many are `PENDING`, or how many replaced versions aren't freed (`RETAINED`).
+/// A number (`c_answers::numbers`) of the store at `held`: the `FAULT` of the last call, its `VERSION`, which is how
+/// many loads are published, how many are `PENDING`, or how many replaced versions aren't freed (`RETAINED`).
 #[unsafe(no_mangle)]
 pub unsafe extern "C" fn kobdzila_store_number(held: *const OpaqueStore, which: u32) -> u64
     ghost g: { Lft × Share × AStore }
     requires* { sem 𝓛 (reads_store g.0 g.1 held g.2) }
     ensures* { sem 𝓛 (flft g.0 g.1) ∗ ⌜ IsStoreNumber g.2 which result ⌝ }
 {
-    stores::store_number(&*(held as *const HeldStore), which)
+    c_stores::store_number(&*(held as *const HeldStore), which)
 }
 
 /// Drops the store at `held`, and gives its memory back to C. Its readers and notices stay.
@@ -468,7 +460,7 @@ pub unsafe extern "C" fn kobdzila_store_close(held: *mut OpaqueStore)
     requires* { sem 𝓛 (holds_store held value) }
     ensures* { sem 𝓛 (room_at store_row held) }
 {
-    stores::close_store((held as *mut HeldStore).read());
+    c_stores::close_store((held as *mut HeldStore).read());
 }
 
 /// Writes a notice of what is published in the store at `held` to `out`.
@@ -478,7 +470,7 @@ pub unsafe extern "C" fn kobdzila_store_notice(held: *const OpaqueStore, out: *m
     requires* { sem 𝓛 (reads_store g.0 g.1 held g.2) ∗ sem 𝓛 (room_at notice_row out) }
     ensures* { sem 𝓛 (flft g.0 g.1) ∗ sem 𝓛 (notice_at out (IsNoticeOf g.2)) }
 {
-    (out as *mut HeldNotice).write(stores::notice(&*(held as *const HeldStore)));
+    (out as *mut HeldNotice).write(c_stores::notice(&*(held as *const HeldStore)));
 }
 
 /// Drops the notice at `held`, and gives its memory back to C.
@@ -488,7 +480,7 @@ pub unsafe extern "C" fn kobdzila_notice_close(held: *mut OpaqueNotice)
     requires* { sem 𝓛 (holds_notice held value) }
     ensures* { sem 𝓛 (room_at notice_row held) }
 {
-    stores::close_notice((held as *mut HeldNotice).read());
+    c_stores::close_notice((held as *mut HeldNotice).read());
 }
 
 /// Writes an entrance to the store at `held` to `out`, or none if memory runs out. Readers are made there while the
@@ -499,7 +491,7 @@ pub unsafe extern "C" fn kobdzila_store_entrance(held: *const OpaqueStore, out: 
     requires* { sem 𝓛 (reads_store g.0 g.1 held g.2) ∗ sem 𝓛 (room_at entrance_row out) }
     ensures* { sem 𝓛 (flft g.0 g.1) ∗ sem 𝓛 (entrance_at out (IsEntranceOf g.2)) }
 {
-    (out as *mut HeldEntrance).write(stores::entrance(&*(held as *const HeldStore)));
+    (out as *mut HeldEntrance).write(c_stores::entrance(&*(held as *const HeldStore)));
 }
 
 /// Writes a reader of the store of the entrance at `held`, in the newest version, to `out`, or none if memory runs out.
@@ -509,7 +501,7 @@ pub unsafe extern "C" fn kobdzila_entrance_reader(held: *const OpaqueEntrance, o
     requires* { sem 𝓛 (reads_entrance g.0 g.1 held g.2) ∗ sem 𝓛 (room_at set_row out) }
     ensures* { sem 𝓛 (flft g.0 g.1) ∗ sem 𝓛 (set_at out (IsReaderFrom g.2)) }
 {
-    (out as *mut HeldSet).write(stores::reader_from(&*(held as *const HeldEntrance)));
+    (out as *mut HeldSet).write(c_stores::reader_from(&*(held as *const HeldEntrance)));
 }
 
 /// Drops the entrance at `held`, and gives its memory back to C.
@@ -519,7 +511,7 @@ pub unsafe extern "C" fn kobdzila_entrance_close(held: *mut OpaqueEntrance)
     requires* { sem 𝓛 (holds_entrance held value) }
     ensures* { sem 𝓛 (room_at entrance_row held) }
 {
-    stores::close_entrance((held as *mut HeldEntrance).read());
+    c_stores::close_entrance((held as *mut HeldEntrance).read());
 }
 
 /// Whether an entry of the reader at `held` would find nothing new, as 1 or 0. It moves nothing, so it costs less than
@@ -530,7 +522,7 @@ pub unsafe extern "C" fn kobdzila_reader_is_current(held: *const OpaqueSet) -> u
     requires* { sem 𝓛 (reads_set g.0 g.1 held g.2) }
     ensures* { sem 𝓛 (flft g.0 g.1) ∗ ⌜ result ≤ 1 ⌝ }
 {
-    stores::is_current(&*(held as *const HeldSet))
+    c_stores::is_current(&*(held as *const HeldSet))
 }
 
 /// The reader at `held` leaves its version, so that it keeps none alive. Its set is empty until it enters again.
@@ -540,7 +532,7 @@ pub unsafe extern "C" fn kobdzila_reader_leave(alloc: Global, held: *mut OpaqueS
     requires* { sem 𝓛 (holds_set held value) }
     ensures* { sem 𝓛 (set_at held (IsLeft value)) }
 {
-    (held as *mut HeldSet).write(stores::leave(alloc, (held as *mut HeldSet).read()));
+    (held as *mut HeldSet).write(c_stores::leave(alloc, (held as *mut HeldSet).read()));
 }
 
 /// The reader at `held` enters the newest version of its store.
@@ -550,7 +542,7 @@ pub unsafe extern "C" fn kobdzila_reader_enter(held: *mut OpaqueSet)
     requires* { sem 𝓛 (holds_set held value) }
     ensures* { sem 𝓛 (set_at held (IsEntered value)) }
 {
-    (held as *mut HeldSet).write(stores::enter((held as *mut HeldSet).read()));
+    (held as *mut HeldSet).write(c_stores::enter((held as *mut HeldSet).read()));
 }
 
 /// The reader at `held` enters the newest version of its store, which isn't older than the notice at `notice`. Both
@@ -564,7 +556,7 @@ pub unsafe extern "C" fn kobdzila_reader_enter_after(
     requires* { (sem 𝓛 (holds_set held g.0) ∗ sem 𝓛 (reads_notice g.1 g.2 notice g.3)) ∗ ⌜ AreOfOne g.0 g.3 ⌝ }
     ensures* { sem 𝓛 (flft g.1 g.2) ∗ sem 𝓛 (set_at held (IsEnteredAfter g.0 g.3)) }
 {
-    (held as *mut HeldSet).write(stores::enter_after(
+    (held as *mut HeldSet).write(c_stores::enter_after(
         (held as *mut HeldSet).read(),
         &*(notice as *const HeldNotice),
     ));
@@ -582,7 +574,7 @@ pub extern "C" fn kobdzila_output_size() -> usize
     ensures size { result ≡ size (layout output_row) }
     ensures alignment { align (layout output_row) ≤ 16 }
 {
-    std::mem::size_of::<HeldOutput>()
+    c_outputs::output_size()
 }
 
 /// Writes the PO text of the catalogue at `held` to `out`, or why there is none. If `escape` isn't 0, bytes other than
@@ -598,7 +590,7 @@ pub unsafe extern "C" fn kobdzila_write_po(
     requires* { sem 𝓛 (reads g.0 g.1 held g.2) ∗ sem 𝓛 (room_at output_row out) }
     ensures* { sem 𝓛 (flft g.0 g.1) ∗ sem 𝓛 (output_at out (IsPoText (nat_lt 0 escape) g.2)) }
 {
-    (out as *mut HeldOutput).write(outputs::write_text(alloc, &*(held as *const Opened), escape));
+    (out as *mut HeldOutput).write(c_outputs::write_text(alloc, &*(held as *const Opened), escape));
 }
 
 /// Writes the faults of the formats of Python in a PO text to `out`, or why it is refused. An option is on if its
@@ -614,12 +606,12 @@ pub unsafe extern "C" fn kobdzila_format_faults(
     requires* { sem 𝓛 (room_at output_row out) }
     ensures* { sem 𝓛 (output_at out (IsFormatFaults bytes.now (options_of checked use_fuzzy))) }
 {
-    (out as *mut HeldOutput).write(outputs::check_formats(alloc, bytes, checked, use_fuzzy));
+    (out as *mut HeldOutput).write(c_outputs::check_formats(alloc, bytes, checked, use_fuzzy));
 }
 
-/// A number (`numbers`) of the output at `held`: its `FAULT`, the fault's `LINE`, or the `COUNT` of the faults in it.
-/// For fault `place` it is its `FAULT_LINE`, `FAULT_LANGUAGE`, `FAULT_FORM` or `FAULT_DIFFERENCE`. Any other number is
-/// 0, and so is one of a fault that isn't there.
+/// A number (`c_answers::numbers`) of the output at `held`: its `FAULT`, the fault's `LINE`, or the `COUNT` of the
+/// faults in it. For fault `place` it is its `FAULT_LINE`, `FAULT_LANGUAGE`, `FAULT_FORM` or `FAULT_DIFFERENCE`. Any
+/// other number is 0, and so is one of a fault that isn't there.
 #[unsafe(no_mangle)]
 pub unsafe extern "C" fn kobdzila_output_number(
     held: *const OpaqueOutput,
@@ -630,7 +622,7 @@ pub unsafe extern "C" fn kobdzila_output_number(
     requires* { sem 𝓛 (reads_output g.0 g.1 held g.2) }
     ensures* { sem 𝓛 (flft g.0 g.1) ∗ ⌜ result ≡ output_number g.2 which place ⌝ }
 {
-    outputs::output_number(&*(held as *const HeldOutput), which, place)
+    c_outputs::output_number(&*(held as *const HeldOutput), which, place)
 }
 
 /// Writes the bytes of the PO text at `held` to `out`; none if there is no PO text.
@@ -640,7 +632,7 @@ pub unsafe extern "C" fn kobdzila_output_text(held: *const OpaqueOutput, out: *m
     requires* { sem 𝓛 (reads_output g.0 g.1 held g.2) ∗ sem 𝓛 (room_at (Text g.0) out) }
     ensures* { sem 𝓛 (flft g.0 g.1) ∗ sem 𝓛 (text_lent g.0 out g.2) }
 {
-    *out = outputs::output_text(&*(held as *const HeldOutput));
+    *out = c_outputs::output_text(&*(held as *const HeldOutput));
 }
 
 /// Drops the output at `held`, and gives its memory back to C.
@@ -650,5 +642,5 @@ pub unsafe extern "C" fn kobdzila_output_close(held: *mut OpaqueOutput)
     requires* { sem 𝓛 (holds_output held value) }
     ensures* { sem 𝓛 (room_at output_row held) }
 {
-    outputs::close_output((held as *mut HeldOutput).read());
+    c_outputs::close_output((held as *mut HeldOutput).read());
 }

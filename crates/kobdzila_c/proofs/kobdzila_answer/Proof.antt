@@ -34,13 +34,13 @@ use denote.Triple.Spec.{triple_of}
 use denote.Triple.Table.{framed}
 use denote.Triple.Walked.{Stays, walk_of, stay_dropped, Goes-dropped, ends_at}
 use Rattle.std.proofs.raw_atomic.Walks.{proved}
-use Rattle.kobdzila_c.specs.Answering.{IsClosedAnswer, map_of, question}
+use Rattle.c_answers.specs.Answering.{IsClosedAnswer, map_of, question}
 use Rattle.kobdzila_c.specs.Shared.{Text, reads}
 use Rattle.kobdzila_c.specs.contracts.kobdzila_answer as f
 use Rattle.kobdzila_c.proofs.kobdzila_answer.Statement.{statement}
 use Rattle.kobdzila_c.proofs.kobdzila_answer.Code as code
-use Rattle.kobdzila_c.specs.contracts.answers.answer as g
-use Rattle.kobdzila_c.proofs.answers.answer.Met.{met}
+use Rattle.c_answers.specs.contracts.answer as g
+use Rattle.c_answers.proofs.answer.Met.{met}
 
 abbrev stayed : Stays f.ended.signature.params f.ended.kept
 stayed = (
@@ -223,7 +223,7 @@ kobdzila_answer_spec 𝓤 𝓛 𝓜 𝓡 wired =
     move ! (4 ∷ 0 ∷ []) $ fjoin ! $ move ! (1 ∷ 0 ∷ []) $ fjoin ! $
     move ! (2 ∷ 3 ∷ []) $ join ! $ join ! $ nothing ! $ move ! (1 ∷ 0 ∷ []) $ join ! $
     use1 𝓛 (raw (G.pre z)) (id⊢ 𝓤 _) $
-    calls_at ! (framed 𝓤 𝓛.H 𝓜 𝓣) G (met 𝓤 𝓛 𝓜 𝓡 (code.calls-kobdzila_c::answers::answer 𝓡.env wired)) z (and_then !
+    calls_at ! (framed 𝓤 𝓛.H 𝓜 𝓣) G (met 𝓤 𝓛 𝓜 𝓡 (code.calls-c_answers::answer 𝓡.env wired)) z (and_then !
     (get ! refl) (and_then ! (get ! refl) (and_then ! (get ! refl) (and_then ! (get ! refl) (and_then ! (get ! refl)
     (and_then ! (get ! refl) (no_more !))))))) (λ v.
     use1 𝓛 (later (some (λ (r : Bor (List ℕ)). ((‵ (flft μ s) ⊛ (‵ (flft κs.0 qs.0) ⊛ (‵ (flft κs.1.0 qs.1.0) ⊛ ‵

@@ -30,19 +30,19 @@ use denote.Triple.Spec.{triple_of}
 use denote.Triple.Table.{framed}
 use denote.Triple.Walked.{Stays, walk_of, stay_dropped, Goes-dropped, ends_at}
 use Rattle.std.proofs.raw_atomic.Walks.{proved}
-use Rattle.kobdzila_c.specs.declared.outputs.HeldOutput.{HeldOutput}
-use Rattle.kobdzila_c.specs.contracts.outputs.HeldOutput.{the_row as R}
-use Rattle.kobdzila_c.proofs.outputs.HeldOutput.TheLaws.{the_row_laws}
+use Rattle.c_outputs.specs.declared.outputs.HeldOutput.{HeldOutput}
+use Rattle.c_outputs.specs.contracts.outputs.HeldOutput.{the_row as R}
+use Rattle.c_outputs.proofs.outputs.HeldOutput.TheLaws.{the_row_laws}
 use Rattle.std_heap.specs.contracts.Global as Heap
 use Rattle.std_heap.proofs.Handle.{heap_val, heap_Tells}
-use Rattle.kobdzila_c.specs.Opening.{options_of}
-use Rattle.kobdzila_c.specs.Outputs.{IsFormatFaults}
+use Rattle.c_opening.specs.Opening.{options_of}
+use Rattle.c_outputs.specs.Outputs.{IsFormatFaults}
 use Rattle.kobdzila_c.specs.Shared.{holds_output}
 use Rattle.kobdzila_c.specs.contracts.kobdzila_format_faults as f
 use Rattle.kobdzila_c.proofs.kobdzila_format_faults.Statement.{statement}
 use Rattle.kobdzila_c.proofs.kobdzila_format_faults.Code as code
-use Rattle.kobdzila_c.specs.contracts.outputs.check_formats as g
-use Rattle.kobdzila_c.proofs.outputs.check_formats.Met.{met}
+use Rattle.c_outputs.specs.contracts.check_formats as g
+use Rattle.c_outputs.proofs.check_formats.Met.{met}
 
 abbrev stayed : Stays f.ended.signature.params f.ended.kept
 stayed = (
@@ -124,7 +124,7 @@ kobdzila_format_faults_spec 𝓤 𝓛 𝓜 𝓡 wired =
     move ! (2 ∷ 0 ∷ []) $ fjoin ! $ move ! (2 ∷ 0 ∷ []) $ join ! $ nothing ! $
     move ! (1 ∷ 0 ∷ []) $ join ! $
     use1 𝓛 (raw (G.pre z)) (id⊢ 𝓤 _) $
-    calls_at ! (framed 𝓤 𝓛.H 𝓜 𝓣) G (met 𝓤 𝓛 𝓜 𝓡 (code.calls-kobdzila_c::outputs::check_formats 𝓡.env wired)) z
+    calls_at ! (framed 𝓤 𝓛.H 𝓜 𝓣) G (met 𝓤 𝓛 𝓜 𝓡 (code.calls-c_outputs::check_formats 𝓡.env wired)) z
     (and_then ! (get ! refl) (and_then ! (get ! refl) (and_then ! (get ! refl) (and_then ! (get ! refl)
     (no_more !))))) (λ v.
     use1 𝓛 (later (some (λ (r : HeldOutput). (toks ⊛ ‵ (R.own_val r (v ∷ []))) ⊛ some (λ (ws : Lasts g.ended z.0.0

@@ -34,8 +34,8 @@ use Rattle.kobdzila_c.specs.Shared.{reads}
 use Rattle.kobdzila_c.specs.contracts.kobdzila_hint as f
 use Rattle.kobdzila_c.proofs.kobdzila_hint.Statement.{statement}
 use Rattle.kobdzila_c.proofs.kobdzila_hint.Code as code
-use Rattle.kobdzila_c.specs.contracts.answers.hint as g
-use Rattle.kobdzila_c.proofs.answers.hint.Met.{met}
+use Rattle.c_answers.specs.contracts.hint as g
+use Rattle.c_answers.proofs.hint.Met.{met}
 
 abbrev stayed : Stays f.ended.signature.params f.ended.kept
 stayed = (stay_dropped _ yes, (stay_dropped _ yes, (stay_dropped _ yes, (stay_dropped _ yes, tt))))
@@ -159,7 +159,7 @@ kobdzila_hint_spec 𝓤 𝓛 𝓜 𝓡 wired =
     move ! (1 ∷ 0 ∷ []) $ fjoin ! $
     move ! (1 ∷ 2 ∷ []) $ join ! $ join ! $ nothing ! $ move ! (1 ∷ 0 ∷ []) $ join ! $
     use1 𝓛 (raw (G.pre z)) (id⊢ 𝓤 _) $
-    calls_at ! (framed 𝓤 𝓛.H 𝓜 𝓣) G (met 𝓤 𝓛 𝓜 𝓡 (code.calls-kobdzila_c::answers::hint 𝓡.env wired)) z (and_then !
+    calls_at ! (framed 𝓤 𝓛.H 𝓜 𝓣) G (met 𝓤 𝓛 𝓜 𝓡 (code.calls-c_answers::hint 𝓡.env wired)) z (and_then !
     (get ! refl) (and_then ! (get ! refl) (and_then ! (get ! refl) (and_then ! (get ! refl) (no_more !))))) (λ v.
     use1 𝓛 (later (some (λ (r : ℕ). ((‵ (flft μ s) ⊛ (‵ (flft κs.0 qs.0) ⊛ (‵ (flft κs.1.0 qs.1.0) ⊛ ‵ ftrue))) ⊛ ‵
     (u64.own_val r (v ∷ []))) ⊛ some (λ (ws : Lasts

@@ -30,18 +30,18 @@ use denote.Triple.Spec.{triple_of}
 use denote.Triple.Table.{framed}
 use denote.Triple.Walked.{Stays, walk_of, stay_dropped, Goes-dropped, ends_at}
 use Rattle.std.proofs.raw_atomic.Walks.{proved}
-use Rattle.kobdzila_c.specs.declared.opened.Opened.{Opened}
-use Rattle.kobdzila_c.specs.contracts.opened.Opened.{the_row as R}
-use Rattle.kobdzila_c.proofs.opened.Opened.TheLaws.{the_row_laws}
+use Rattle.c_answers.specs.declared.opened.Opened.{Opened}
+use Rattle.c_answers.specs.contracts.opened.Opened.{the_row as R}
+use Rattle.c_answers.proofs.opened.Opened.TheLaws.{the_row_laws}
 use Rattle.std_heap.specs.contracts.Global as Heap
 use Rattle.std_heap.proofs.Handle.{heap_val, heap_Tells}
-use Rattle.kobdzila_c.specs.Opening.{IsOpenedPo, options_of}
+use Rattle.c_opening.specs.Opening.{IsOpenedPo, options_of}
 use Rattle.kobdzila_c.specs.Shared.{holds}
 use Rattle.kobdzila_c.specs.contracts.kobdzila_open_po as f
 use Rattle.kobdzila_c.proofs.kobdzila_open_po.Statement.{statement}
 use Rattle.kobdzila_c.proofs.kobdzila_open_po.Code as code
-use Rattle.kobdzila_c.specs.contracts.opened.open_po as g
-use Rattle.kobdzila_c.proofs.opened.open_po.Met.{met}
+use Rattle.c_opening.specs.contracts.open_po as g
+use Rattle.c_opening.proofs.open_po.Met.{met}
 
 abbrev stayed : Stays f.ended.signature.params f.ended.kept
 stayed = (
@@ -199,7 +199,7 @@ kobdzila_open_po_spec 𝓤 𝓛 𝓜 𝓡 wired =
     move ! (2 ∷ 0 ∷ []) $ fjoin ! $ move ! (2 ∷ 0 ∷ []) $ fjoin ! $ move ! (2 ∷ 0 ∷ []) $ join ! $ nothing ! $
     move ! (1 ∷ 0 ∷ []) $ join ! $
     use1 𝓛 (raw (G.pre z)) (id⊢ 𝓤 _) $
-    calls_at ! (framed 𝓤 𝓛.H 𝓜 𝓣) G (met 𝓤 𝓛 𝓜 𝓡 (code.calls-kobdzila_c::opened::open_po 𝓡.env wired)) z (and_then !
+    calls_at ! (framed 𝓤 𝓛.H 𝓜 𝓣) G (met 𝓤 𝓛 𝓜 𝓡 (code.calls-c_opening::open_po 𝓡.env wired)) z (and_then !
     (get ! refl) (and_then ! (get ! refl) (and_then ! (get ! refl) (and_then ! (get ! refl) (and_then ! (get ! refl)
     (no_more !)))))) (λ v.
     use1 𝓛 (later (some (λ (r : Opened). (toks ⊛ ‵ (R.own_val r (v ∷ []))) ⊛ some (λ (ws : Lasts g.ended z.0.0

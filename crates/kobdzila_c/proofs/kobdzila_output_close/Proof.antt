@@ -25,14 +25,14 @@ use denote.Triple.Spec.{triple_of}
 use denote.Triple.Table.{framed}
 use denote.Triple.Walked.{Stays, walk_of, stay_dropped, Goes-dropped, ends_at}
 use Rattle.std.proofs.raw_atomic.Walks.{proved}
-use Rattle.kobdzila_c.specs.contracts.outputs.HeldOutput.{the_row as R}
-use Rattle.kobdzila_c.proofs.outputs.HeldOutput.TheLaws.{the_row_laws}
+use Rattle.c_outputs.specs.contracts.outputs.HeldOutput.{the_row as R}
+use Rattle.c_outputs.proofs.outputs.HeldOutput.TheLaws.{the_row_laws}
 use Rattle.kobdzila_c.specs.Shared.{holds_output}
 use Rattle.kobdzila_c.specs.contracts.kobdzila_output_close as f
 use Rattle.kobdzila_c.proofs.kobdzila_output_close.Statement.{statement}
 use Rattle.kobdzila_c.proofs.kobdzila_output_close.Code as code
-use Rattle.kobdzila_c.specs.contracts.outputs.close_output as g
-use Rattle.kobdzila_c.proofs.outputs.close_output.Met.{met}
+use Rattle.c_outputs.specs.contracts.close_output as g
+use Rattle.c_outputs.proofs.close_output.Met.{met}
 
 abbrev stayed : Stays f.ended.signature.params f.ended.kept
 stayed = (stay_dropped _ yes, tt)
@@ -58,7 +58,7 @@ kobdzila_output_close_spec 𝓤 𝓛 𝓜 𝓡 wired =
     let z : G.Ghost = ((tt, tt, tt, (x, tt), (v ∷ [], tt)), tt) in
     nothing ! $ move ! (1 ∷ 0 ∷ []) $ fjoin ! $ nothing ! $ join ! $ nothing ! $ move ! (1 ∷ 0 ∷ []) $ join ! $
     use1 𝓛 (raw (G.pre z)) (id⊢ 𝓤 _) $
-    calls_at ! (framed 𝓤 𝓛.H 𝓜 𝓣) G (met 𝓤 𝓛 𝓜 𝓡 (code.calls-kobdzila_c::outputs::close_output 𝓡.env wired)) z
+    calls_at ! (framed 𝓤 𝓛.H 𝓜 𝓣) G (met 𝓤 𝓛 𝓜 𝓡 (code.calls-c_outputs::close_output 𝓡.env wired)) z
     (and_then ! (get ! refl) (no_more !)) (λ w.
     use1 𝓛 (later (some (λ (u : Unit {0}). (‵ ftrue ⊛ ‵ (unit.own_val u (w ∷ []))) ⊛ some (λ (ws : Lasts g.ended
     z.0.0 z.0.3). ‵ (lasts g.ended z.0.0 z.0.3 ws) ⊛ ‵ ftrue)))) (id⊢ 𝓤 _) $

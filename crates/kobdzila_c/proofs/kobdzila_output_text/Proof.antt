@@ -33,13 +33,13 @@ use denote.Triple.Spec.{triple_of}
 use denote.Triple.Table.{framed}
 use denote.Triple.Walked.{Stays, walk_of, stay_dropped, Goes-dropped, ends_at}
 use Rattle.std.proofs.raw_atomic.Walks.{proved}
-use Rattle.kobdzila_c.specs.Outputs.{text_in}
+use Rattle.c_outputs.specs.Outputs.{text_in}
 use Rattle.kobdzila_c.specs.Shared.{Text, reads_output}
 use Rattle.kobdzila_c.specs.contracts.kobdzila_output_text as f
 use Rattle.kobdzila_c.proofs.kobdzila_output_text.Statement.{statement}
 use Rattle.kobdzila_c.proofs.kobdzila_output_text.Code as code
-use Rattle.kobdzila_c.specs.contracts.outputs.output_text as g
-use Rattle.kobdzila_c.proofs.outputs.output_text.Met.{met}
+use Rattle.c_outputs.specs.contracts.output_text as g
+use Rattle.c_outputs.proofs.output_text.Met.{met}
 
 abbrev stayed : Stays f.ended.signature.params f.ended.kept
 stayed = (stay_dropped _ yes, (stay_dropped _ yes, tt))
@@ -82,7 +82,7 @@ kobdzila_output_text_spec 𝓤 𝓛 𝓜 𝓡 wired =
     move ! (1 ∷ []) $ feq_i ! (List Val) (at ∷ []) (at ∷ []) refl $ fjoin ! $ nothing ! $ move ! (1 ∷ 0 ∷ []) $
     fjoin ! $ nothing ! $ move ! (3 ∷ 0 ∷ []) $ join ! $ join ! $ nothing ! $ move ! (1 ∷ 0 ∷ []) $ join ! $
     use1 𝓛 (raw (G.pre z)) (id⊢ 𝓤 _) $
-    calls_at ! (framed 𝓤 𝓛.H 𝓜 𝓣) G (met 𝓤 𝓛 𝓜 𝓡 (code.calls-kobdzila_c::outputs::output_text 𝓡.env wired)) z
+    calls_at ! (framed 𝓤 𝓛.H 𝓜 𝓣) G (met 𝓤 𝓛 𝓜 𝓡 (code.calls-c_outputs::output_text 𝓡.env wired)) z
     (and_then ! (get ! refl) (no_more !)) (λ v.
     use1 𝓛 (later (some (λ (r : Bor (List ℕ)). ((‵ (flft μ s) ⊛ ‵ ftrue) ⊛ ‵ (R.own_val r (v ∷ []))) ⊛ some (λ (ws :
     Lasts g.ended z.0.0 z.0.3). ‵ (lasts g.ended z.0.0 z.0.3 ws) ⊛ raw (fact 𝓤 (r.now ≡ text_in x.output)))))) (id⊢ 𝓤

@@ -29,16 +29,16 @@ use denote.Triple.Spec.{triple_of}
 use denote.Triple.Table.{framed}
 use denote.Triple.Walked.{Stays, walk_of, stay_dropped, Goes-dropped, ends_at}
 use Rattle.std.proofs.raw_atomic.Walks.{proved}
-use Rattle.kobdzila_c.specs.declared.sets.HeldSet.{HeldSet}
-use Rattle.kobdzila_c.specs.contracts.sets.HeldSet.{the_row as R}
-use Rattle.kobdzila_c.proofs.sets.HeldSet.TheLaws.{the_row_laws}
-use Rattle.kobdzila_c.specs.Storing.{AreOfOne, IsEnteredAfter}
+use Rattle.c_sets.specs.declared.sets.HeldSet.{HeldSet}
+use Rattle.c_sets.specs.contracts.sets.HeldSet.{the_row as R}
+use Rattle.c_sets.proofs.sets.HeldSet.TheLaws.{the_row_laws}
+use Rattle.c_stores.specs.Storing.{AreOfOne, IsEnteredAfter}
 use Rattle.kobdzila_c.specs.Shared.{holds_set, reads_notice}
 use Rattle.kobdzila_c.specs.contracts.kobdzila_reader_enter_after as f
 use Rattle.kobdzila_c.proofs.kobdzila_reader_enter_after.Statement.{statement}
 use Rattle.kobdzila_c.proofs.kobdzila_reader_enter_after.Code as code
-use Rattle.kobdzila_c.specs.contracts.stores.enter_after as g
-use Rattle.kobdzila_c.proofs.stores.enter_after.Met.{met}
+use Rattle.c_stores.specs.contracts.enter_after as g
+use Rattle.c_stores.proofs.enter_after.Met.{met}
 
 abbrev stayed : Stays f.ended.signature.params f.ended.kept
 stayed = (stay_dropped _ yes, (stay_dropped _ yes, tt))
@@ -89,7 +89,7 @@ kobdzila_reader_enter_after_spec 𝓤 𝓛 𝓜 𝓡 wired =
     -- [what it owns; the reader's memory; the token of μ; that both are of one store]
     nothing ! $ move ! (3 ∷ 0 ∷ []) $ join ! $ join ! $ move ! (0 ∷ 2 ∷ []) $ join ! $
     use1 𝓛 (raw (G.pre z)) (id⊢ 𝓤 _) $
-    calls_at ! (framed 𝓤 𝓛.H 𝓜 𝓣) G (met 𝓤 𝓛 𝓜 𝓡 (code.calls-kobdzila_c::stores::enter_after 𝓡.env wired)) z
+    calls_at ! (framed 𝓤 𝓛.H 𝓜 𝓣) G (met 𝓤 𝓛 𝓜 𝓡 (code.calls-c_stores::enter_after 𝓡.env wired)) z
     (and_then ! (get ! refl) (and_then ! (get ! refl) (no_more !))) (λ w.
     use1 𝓛 (later (some (λ (r : HeldSet). ((‵ (flft μ s) ⊛ ‵ ftrue) ⊛ ‵ (R.own_val r (w ∷ []))) ⊛ some (λ (ws : Lasts
     g.ended z.0.0 z.0.3). ‵ (lasts g.ended z.0.0 z.0.3 ws) ⊛ raw (fact 𝓤 (IsEnteredAfter x t r)))))) (id⊢ 𝓤 _) $

@@ -31,8 +31,8 @@ use Rattle.kobdzila_c.specs.Shared.{reads_set}
 use Rattle.kobdzila_c.specs.contracts.kobdzila_reader_is_current as f
 use Rattle.kobdzila_c.proofs.kobdzila_reader_is_current.Statement.{statement}
 use Rattle.kobdzila_c.proofs.kobdzila_reader_is_current.Code as code
-use Rattle.kobdzila_c.specs.contracts.stores.is_current as g
-use Rattle.kobdzila_c.proofs.stores.is_current.Met.{met}
+use Rattle.c_stores.specs.contracts.is_current as g
+use Rattle.c_stores.proofs.is_current.Met.{met}
 
 abbrev stayed : Stays f.ended.signature.params f.ended.kept
 stayed = (stay_dropped _ yes, tt)
@@ -67,7 +67,7 @@ kobdzila_reader_is_current_spec 𝓤 𝓛 𝓜 𝓡 wired =
     feq_i ! (List Val) (at ∷ []) (at ∷ []) refl $ fjoin ! $ nothing ! $ move ! (1 ∷ 0 ∷ []) $ fjoin ! $
     nothing ! $ move ! (2 ∷ 0 ∷ []) $ join ! $ join ! $
     nothing ! $ move ! (1 ∷ 0 ∷ []) $ join ! $ use1 𝓛 (raw (G.pre z)) (id⊢ 𝓤 _) $
-    calls_at ! (framed 𝓤 𝓛.H 𝓜 𝓣) G (met 𝓤 𝓛 𝓜 𝓡 (code.calls-kobdzila_c::stores::is_current 𝓡.env wired)) z
+    calls_at ! (framed 𝓤 𝓛.H 𝓜 𝓣) G (met 𝓤 𝓛 𝓜 𝓡 (code.calls-c_stores::is_current 𝓡.env wired)) z
     (and_then ! (get ! refl) (no_more !)) (λ v.
     use1 𝓛 (later (some (λ (r : ℕ). ((‵ (flft μ s) ⊛ ‵ ftrue) ⊛ ‵ (u32.own_val r (v ∷ []))) ⊛ some (λ (ws : Lasts
     g.ended z.0.0 z.0.3). ‵ (lasts g.ended z.0.0 z.0.3 ws) ⊛ raw (fact 𝓤 (r ≤ 1)))))) (id⊢ 𝓤 _) $

@@ -36,13 +36,13 @@ use Rattle.std.proofs.raw_atomic.Walks.{proved}
 use Rattle.live_set.specs.declared.places.Places.{Places}
 use Rattle.live_set.specs.contracts.places.Places.{the_row as R}
 use Rattle.live_set.proofs.places.Places.TheLaws.{the_row_laws}
-use Rattle.kobdzila_c.specs.NamedPlaces.{AreSetPlaces}
+use Rattle.c_sets.specs.NamedPlaces.{AreSetPlaces}
 use Rattle.kobdzila_c.specs.Shared.{reads_set}
 use Rattle.kobdzila_c.specs.contracts.kobdzila_set_languages as f
 use Rattle.kobdzila_c.proofs.kobdzila_set_languages.Statement.{statement}
 use Rattle.kobdzila_c.proofs.kobdzila_set_languages.Code as code
-use Rattle.kobdzila_c.specs.contracts.places.set_places as g
-use Rattle.kobdzila_c.proofs.places.set_places.Met.{met}
+use Rattle.c_sets.specs.contracts.set_places as g
+use Rattle.c_sets.proofs.set_places.Met.{met}
 
 abbrev stayed : Stays f.ended.signature.params f.ended.kept
 stayed = (
@@ -125,7 +125,7 @@ kobdzila_set_languages_spec 𝓤 𝓛 𝓜 𝓡 wired =
     fjoin ! $ move ! (4 ∷ 0 ∷ []) $ fjoin ! $ move ! (1 ∷ 0 ∷ []) $ fjoin ! $
     move ! (2 ∷ 3 ∷ []) $ join ! $ join ! $ nothing ! $ move ! (1 ∷ 0 ∷ []) $ join ! $
     use1 𝓛 (raw (G.pre z)) (id⊢ 𝓤 _) $
-    calls_at ! (framed 𝓤 𝓛.H 𝓜 𝓣) G (met 𝓤 𝓛 𝓜 𝓡 (code.calls-kobdzila_c::places::set_places 𝓡.env wired)) z
+    calls_at ! (framed 𝓤 𝓛.H 𝓜 𝓣) G (met 𝓤 𝓛 𝓜 𝓡 (code.calls-c_sets::set_places 𝓡.env wired)) z
     (and_then ! (get ! refl) (and_then ! (get ! refl) (and_then ! (get ! refl) (no_more !)))) (λ v.
     use1 𝓛 (later (some (λ (r : Places). ((‵ (flft μ s) ⊛ (k0 ⊛ (k1 ⊛ ‵ ftrue))) ⊛ ‵ (R.own_val r (v ∷ [])))
     ⊛ some (λ (ws : Lasts g.ended z.0.0 z.0.3). ‵ (lasts g.ended z.0.0 z.0.3 ws) ⊛ raw (fact 𝓤 (Are r))))))

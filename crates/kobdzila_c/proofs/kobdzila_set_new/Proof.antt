@@ -25,18 +25,18 @@ use denote.Triple.Spec.{triple_of}
 use denote.Triple.Table.{framed}
 use denote.Triple.Walked.{Stays, walk_of, stay_dropped, Goes-dropped, ends_at}
 use Rattle.std.proofs.raw_atomic.Walks.{proved}
-use Rattle.kobdzila_c.specs.declared.sets.HeldSet.{HeldSet}
-use Rattle.kobdzila_c.specs.contracts.sets.HeldSet.{the_row as R}
-use Rattle.kobdzila_c.proofs.sets.HeldSet.TheLaws.{the_row_laws}
+use Rattle.c_sets.specs.declared.sets.HeldSet.{HeldSet}
+use Rattle.c_sets.specs.contracts.sets.HeldSet.{the_row as R}
+use Rattle.c_sets.proofs.sets.HeldSet.TheLaws.{the_row_laws}
 use Rattle.std_heap.specs.contracts.Global as Heap
 use Rattle.std_heap.proofs.Handle.{heap_val, heap_Tells}
-use Rattle.kobdzila_c.specs.Making.{IsEmpty}
+use Rattle.c_sets.specs.Making.{IsEmpty}
 use Rattle.kobdzila_c.specs.Shared.{holds_set}
 use Rattle.kobdzila_c.specs.contracts.kobdzila_set_new as f
 use Rattle.kobdzila_c.proofs.kobdzila_set_new.Statement.{statement}
 use Rattle.kobdzila_c.proofs.kobdzila_set_new.Code as code
-use Rattle.kobdzila_c.specs.contracts.sets.new_set as g
-use Rattle.kobdzila_c.proofs.sets.new_set.Met.{met}
+use Rattle.c_sets.specs.contracts.new_set as g
+use Rattle.c_sets.proofs.new_set.Met.{met}
 
 abbrev stayed : Stays f.ended.signature.params f.ended.kept
 stayed = (stay_dropped _ yes, (stay_dropped _ yes, tt))
@@ -78,7 +78,7 @@ kobdzila_set_new_spec 𝓤 𝓛 𝓜 𝓡 wired =
     let z : G.Ghost = ((tt, tt, tt, (a.0, tt), (heap_val ∷ [], tt)), tt) in
     nothing ! $ move ! (2 ∷ 0 ∷ []) $ fjoin ! $ nothing ! $ join ! $
     nothing ! $ move ! (1 ∷ 0 ∷ []) $ join ! $ use1 𝓛 (raw (G.pre z)) (id⊢ 𝓤 _) $
-    calls_at ! (framed 𝓤 𝓛.H 𝓜 𝓣) G (met 𝓤 𝓛 𝓜 𝓡 (code.calls-kobdzila_c::sets::new_set 𝓡.env wired)) z (and_then !
+    calls_at ! (framed 𝓤 𝓛.H 𝓜 𝓣) G (met 𝓤 𝓛 𝓜 𝓡 (code.calls-c_sets::new_set 𝓡.env wired)) z (and_then !
     (get ! refl) (no_more !)) (λ v.
     use1 𝓛 (later (some (λ (r : HeldSet). (‵ ftrue ⊛ ‵ (R.own_val r (v ∷ []))) ⊛ some (λ (ws : Lasts g.ended z.0.0
     z.0.3). ‵ (lasts g.ended z.0.0 z.0.3 ws) ⊛ raw (fact 𝓤 (IsEmpty r)))))) (id⊢ 𝓤 _) $

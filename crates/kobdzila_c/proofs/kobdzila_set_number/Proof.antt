@@ -27,13 +27,13 @@ use denote.Triple.Spec.{triple_of}
 use denote.Triple.Table.{framed}
 use denote.Triple.Walked.{Stays, walk_of, stay_dropped, Goes-dropped, ends_at, says}
 use Rattle.std.proofs.raw_atomic.Walks.{proved}
-use Rattle.kobdzila_c.specs.Making.{set_number}
+use Rattle.c_sets.specs.Making.{set_number}
 use Rattle.kobdzila_c.specs.Shared.{reads_set}
 use Rattle.kobdzila_c.specs.contracts.kobdzila_set_number as f
 use Rattle.kobdzila_c.proofs.kobdzila_set_number.Statement.{statement}
 use Rattle.kobdzila_c.proofs.kobdzila_set_number.Code as code
-use Rattle.kobdzila_c.specs.contracts.sets.set_number as g
-use Rattle.kobdzila_c.proofs.sets.set_number.Met.{met}
+use Rattle.c_sets.specs.contracts.set_number as g
+use Rattle.c_sets.proofs.set_number.Met.{met}
 
 abbrev stayed : Stays f.ended.signature.params f.ended.kept
 stayed = (stay_dropped _ yes, (stay_dropped _ yes, tt))
@@ -103,7 +103,7 @@ kobdzila_set_number_spec 𝓤 𝓛 𝓜 𝓡 wired =
     move ! (1 ∷ 0 ∷ []) $ fjoin ! $ nothing ! $ move ! (2 ∷ 0 ∷ []) $ join ! $
     join ! $
     nothing ! $ move ! (1 ∷ 0 ∷ []) $ join ! $ use1 𝓛 (raw (G.pre z)) (id⊢ 𝓤 _) $
-    calls_at ! (framed 𝓤 𝓛.H 𝓜 𝓣) G (met 𝓤 𝓛 𝓜 𝓡 (code.calls-kobdzila_c::sets::set_number 𝓡.env wired)) z (and_then !
+    calls_at ! (framed 𝓤 𝓛.H 𝓜 𝓣) G (met 𝓤 𝓛 𝓜 𝓡 (code.calls-c_sets::set_number 𝓡.env wired)) z (and_then !
     (get ! refl) (and_then ! (get ! refl) (no_more !))) (λ v.
     use1 𝓛 (later (some (λ (r : ℕ). ((‵ (flft μ s) ⊛ ‵ ftrue) ⊛ ‵ (u64.own_val r (v ∷ []))) ⊛ some (λ (ws : Lasts
     g.ended z.0.0 z.0.3). ‵ (lasts g.ended z.0.0 z.0.3 ws) ⊛ raw (fact 𝓤 (r ≡ set_number x which)))))) (id⊢ 𝓤 _) $

@@ -35,16 +35,16 @@ use denote.Triple.Walked.{Stays, walk_of, stay_dropped, Goes-dropped, ends_at}
 use Rattle.std.proofs.raw_atomic.Walks.{proved}
 use Rattle.std_heap.specs.contracts.Global as Heap
 use Rattle.std_heap.proofs.Handle.{heap_val, heap_Tells}
-use Rattle.kobdzila_c.specs.declared.sets.HeldSet.{HeldSet}
-use Rattle.kobdzila_c.specs.contracts.sets.HeldSet.{the_row as R}
-use Rattle.kobdzila_c.proofs.sets.HeldSet.TheLaws.{the_row_laws}
-use Rattle.kobdzila_c.specs.Making.{IsWith}
+use Rattle.c_sets.specs.declared.sets.HeldSet.{HeldSet}
+use Rattle.c_sets.specs.contracts.sets.HeldSet.{the_row as R}
+use Rattle.c_sets.proofs.sets.HeldSet.TheLaws.{the_row_laws}
+use Rattle.c_sets.specs.Making.{IsWith}
 use Rattle.kobdzila_c.specs.Shared.{holds_set, reads, reads_set}
 use Rattle.kobdzila_c.specs.contracts.kobdzila_set_with as f
 use Rattle.kobdzila_c.proofs.kobdzila_set_with.Statement.{statement}
 use Rattle.kobdzila_c.proofs.kobdzila_set_with.Code as code
-use Rattle.kobdzila_c.specs.contracts.sets.with_one as g
-use Rattle.kobdzila_c.proofs.sets.with_one.Met.{met}
+use Rattle.c_sets.specs.contracts.with_one as g
+use Rattle.c_sets.proofs.with_one.Met.{met}
 
 abbrev stayed : Stays f.ended.signature.params f.ended.kept
 stayed = (
@@ -222,7 +222,7 @@ kobdzila_set_with_spec 𝓤 𝓛 𝓜 𝓡 wired =
     move ! (4 ∷ []) $ split ! $ move ! (1 ∷ []) $ split ! $ move ! (5 ∷ 1 ∷ []) $ join ! $ move ! (1 ∷ []) $ join ! $
     move ! (1 ∷ []) $ join ! $ move ! (3 ∷ []) $ join ! $ join ! $ nothing ! $ move ! (1 ∷ 0 ∷ []) $ join ! $
     use1 𝓛 (raw (G.pre z)) (id⊢ 𝓤 _) $
-    calls_at ! (framed 𝓤 𝓛.H 𝓜 𝓣) G (met 𝓤 𝓛 𝓜 𝓡 (code.calls-kobdzila_c::sets::with_one 𝓡.env wired)) z (and_then !
+    calls_at ! (framed 𝓤 𝓛.H 𝓜 𝓣) G (met 𝓤 𝓛 𝓜 𝓡 (code.calls-c_sets::with_one 𝓡.env wired)) z (and_then !
     (get ! refl) (and_then ! (get ! refl) (and_then ! (get ! refl) (and_then ! (get ! refl) (and_then ! (get ! refl)
     (no_more !)))))) (λ v.
     use1 𝓛 (later (some (λ (r : HeldSet). ((‵ (flft μ s) ⊛ (k0 ⊛ (k1 ⊛ (‵ (flft ν t) ⊛ ‵ ftrue)))) ⊛ ‵ (R.own_val r

@@ -29,16 +29,16 @@ use denote.Triple.Spec.{triple_of}
 use denote.Triple.Table.{framed}
 use denote.Triple.Walked.{Stays, walk_of, stay_dropped, Goes-dropped, ends_at}
 use Rattle.std.proofs.raw_atomic.Walks.{proved}
-use Rattle.kobdzila_c.specs.declared.stores.HeldEntrance.{HeldEntrance}
-use Rattle.kobdzila_c.specs.contracts.stores.HeldEntrance.{the_row as R}
-use Rattle.kobdzila_c.proofs.stores.HeldEntrance.TheLaws.{the_row_laws}
-use Rattle.kobdzila_c.specs.Storing.{IsEntranceOf}
+use Rattle.c_stores.specs.declared.stores.HeldEntrance.{HeldEntrance}
+use Rattle.c_stores.specs.contracts.stores.HeldEntrance.{the_row as R}
+use Rattle.c_stores.proofs.stores.HeldEntrance.TheLaws.{the_row_laws}
+use Rattle.c_stores.specs.Storing.{IsEntranceOf}
 use Rattle.kobdzila_c.specs.Shared.{reads_store, holds_entrance}
 use Rattle.kobdzila_c.specs.contracts.kobdzila_store_entrance as f
 use Rattle.kobdzila_c.proofs.kobdzila_store_entrance.Statement.{statement}
 use Rattle.kobdzila_c.proofs.kobdzila_store_entrance.Code as code
-use Rattle.kobdzila_c.specs.contracts.stores.entrance as g
-use Rattle.kobdzila_c.proofs.stores.entrance.Met.{met}
+use Rattle.c_stores.specs.contracts.entrance as g
+use Rattle.c_stores.proofs.entrance.Met.{met}
 
 abbrev stayed : Stays f.ended.signature.params f.ended.kept
 stayed = (stay_dropped _ yes, (stay_dropped _ yes, tt))
@@ -81,7 +81,7 @@ kobdzila_store_entrance_spec 𝓤 𝓛 𝓜 𝓡 wired =
     move ! (1 ∷ []) $ feq_i ! (List Val) (at ∷ []) (at ∷ []) refl $ fjoin ! $ nothing ! $ move ! (1 ∷ 0 ∷ []) $
     fjoin ! $ nothing ! $ move ! (3 ∷ 0 ∷ []) $ join ! $ join ! $ nothing ! $ move ! (1 ∷ 0 ∷ []) $ join ! $
     use1 𝓛 (raw (G.pre z)) (id⊢ 𝓤 _) $
-    calls_at ! (framed 𝓤 𝓛.H 𝓜 𝓣) G (met 𝓤 𝓛 𝓜 𝓡 (code.calls-kobdzila_c::stores::entrance 𝓡.env wired)) z (and_then !
+    calls_at ! (framed 𝓤 𝓛.H 𝓜 𝓣) G (met 𝓤 𝓛 𝓜 𝓡 (code.calls-c_stores::entrance 𝓡.env wired)) z (and_then !
     (get ! refl) (no_more !)) (λ v.
     use1 𝓛 (later (some (λ (r : HeldEntrance). ((‵ (flft μ s) ⊛ ‵ ftrue) ⊛ ‵ (R.own_val r (v ∷ []))) ⊛ some (λ (ws :
     Lasts g.ended z.0.0 z.0.3). ‵ (lasts g.ended z.0.0 z.0.3 ws) ⊛ raw (fact 𝓤 (IsEntranceOf x r)))))) (id⊢ 𝓤

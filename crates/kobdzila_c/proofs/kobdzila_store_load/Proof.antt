@@ -35,16 +35,16 @@ use denote.Triple.Walked.{Stays, walk_of, stay_dropped, Goes-dropped, ends_at}
 use Rattle.std.proofs.raw_atomic.Walks.{proved}
 use Rattle.std_heap.specs.contracts.Global as Heap
 use Rattle.std_heap.proofs.Handle.{heap_val, heap_Tells}
-use Rattle.kobdzila_c.specs.declared.stores.HeldStore.{HeldStore}
-use Rattle.kobdzila_c.specs.contracts.stores.HeldStore.{the_row as R}
-use Rattle.kobdzila_c.proofs.stores.HeldStore.TheLaws.{the_row_laws}
-use Rattle.kobdzila_c.specs.Storing.{IsLoaded}
+use Rattle.c_stores.specs.declared.stores.HeldStore.{HeldStore}
+use Rattle.c_stores.specs.contracts.stores.HeldStore.{the_row as R}
+use Rattle.c_stores.proofs.stores.HeldStore.TheLaws.{the_row_laws}
+use Rattle.c_stores.specs.Storing.{IsLoaded}
 use Rattle.kobdzila_c.specs.Shared.{holds_store, reads}
 use Rattle.kobdzila_c.specs.contracts.kobdzila_store_load as f
 use Rattle.kobdzila_c.proofs.kobdzila_store_load.Statement.{statement}
 use Rattle.kobdzila_c.proofs.kobdzila_store_load.Code as code
-use Rattle.kobdzila_c.specs.contracts.stores.load as g
-use Rattle.kobdzila_c.proofs.stores.load.Met.{met}
+use Rattle.c_stores.specs.contracts.load as g
+use Rattle.c_stores.proofs.load.Met.{met}
 
 abbrev stayed : Stays f.ended.signature.params f.ended.kept
 stayed = (
@@ -144,7 +144,7 @@ kobdzila_store_load_spec 𝓤 𝓛 𝓜 𝓡 wired =
     move ! (3 ∷ []) $ split ! $ move ! (1 ∷ []) $ split ! $ move ! (5 ∷ 1 ∷ []) $ join ! $ move ! (1 ∷ []) $ join ! $
     move ! (1 ∷ []) $ join ! $ join ! $ nothing ! $ move ! (1 ∷ 0 ∷ []) $ join ! $
     use1 𝓛 (raw (G.pre z)) (id⊢ 𝓤 _) $
-    calls_at ! (framed 𝓤 𝓛.H 𝓜 𝓣) G (met 𝓤 𝓛 𝓜 𝓡 (code.calls-kobdzila_c::stores::load 𝓡.env wired)) z (and_then !
+    calls_at ! (framed 𝓤 𝓛.H 𝓜 𝓣) G (met 𝓤 𝓛 𝓜 𝓡 (code.calls-c_stores::load 𝓡.env wired)) z (and_then !
     (get ! refl) (and_then ! (get ! refl) (and_then ! (get ! refl) (and_then ! (get ! refl) (and_then ! (get ! refl)
     (no_more !)))))) (λ w.
     use1 𝓛 (later (some (λ (r : HeldStore). ((k0 ⊛ (k1 ⊛ (‵ (flft μ s) ⊛ ‵ ftrue))) ⊛ ‵ (R.own_val r (w ∷ [])))

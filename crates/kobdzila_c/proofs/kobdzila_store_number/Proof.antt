@@ -27,13 +27,13 @@ use denote.Triple.Spec.{triple_of}
 use denote.Triple.Table.{framed}
 use denote.Triple.Walked.{Stays, walk_of, stay_dropped, Goes-dropped, ends_at, says}
 use Rattle.std.proofs.raw_atomic.Walks.{proved}
-use Rattle.kobdzila_c.specs.Storing.{IsStoreNumber}
+use Rattle.c_stores.specs.Storing.{IsStoreNumber}
 use Rattle.kobdzila_c.specs.Shared.{reads_store}
 use Rattle.kobdzila_c.specs.contracts.kobdzila_store_number as f
 use Rattle.kobdzila_c.proofs.kobdzila_store_number.Statement.{statement}
 use Rattle.kobdzila_c.proofs.kobdzila_store_number.Code as code
-use Rattle.kobdzila_c.specs.contracts.stores.store_number as g
-use Rattle.kobdzila_c.proofs.stores.store_number.Met.{met}
+use Rattle.c_stores.specs.contracts.store_number as g
+use Rattle.c_stores.proofs.store_number.Met.{met}
 
 abbrev stayed : Stays f.ended.signature.params f.ended.kept
 stayed = (stay_dropped _ yes, (stay_dropped _ yes, tt))
@@ -102,7 +102,7 @@ kobdzila_store_number_spec 𝓤 𝓛 𝓜 𝓡 wired =
     move ! (1 ∷ 0 ∷ []) $ fjoin ! $ nothing ! $ move ! (2 ∷ 0 ∷ []) $ join ! $
     join ! $
     nothing ! $ move ! (1 ∷ 0 ∷ []) $ join ! $ use1 𝓛 (raw (G.pre z)) (id⊢ 𝓤 _) $
-    calls_at ! (framed 𝓤 𝓛.H 𝓜 𝓣) G (met 𝓤 𝓛 𝓜 𝓡 (code.calls-kobdzila_c::stores::store_number 𝓡.env wired)) z
+    calls_at ! (framed 𝓤 𝓛.H 𝓜 𝓣) G (met 𝓤 𝓛 𝓜 𝓡 (code.calls-c_stores::store_number 𝓡.env wired)) z
     (and_then ! (get ! refl) (and_then ! (get ! refl) (no_more !))) (λ v.
     use1 𝓛 (later (some (λ (r : ℕ). ((‵ (flft μ s) ⊛ ‵ ftrue) ⊛ ‵ (u64.own_val r (v ∷ []))) ⊛ some (λ (ws : Lasts
     g.ended z.0.0 z.0.3). ‵ (lasts g.ended z.0.0 z.0.3 ws) ⊛ raw (fact 𝓤 (IsStoreNumber x which r)))))) (id⊢ 𝓤 _) $

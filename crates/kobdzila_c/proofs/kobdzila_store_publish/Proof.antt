@@ -27,18 +27,18 @@ use denote.Triple.Spec.{triple_of}
 use denote.Triple.Table.{framed}
 use denote.Triple.Walked.{Stays, walk_of, stay_dropped, Goes-dropped, ends_at}
 use Rattle.std.proofs.raw_atomic.Walks.{proved}
-use Rattle.kobdzila_c.specs.declared.stores.HeldStore.{HeldStore}
-use Rattle.kobdzila_c.specs.contracts.stores.HeldStore.{the_row as R}
-use Rattle.kobdzila_c.proofs.stores.HeldStore.TheLaws.{the_row_laws}
+use Rattle.c_stores.specs.declared.stores.HeldStore.{HeldStore}
+use Rattle.c_stores.specs.contracts.stores.HeldStore.{the_row as R}
+use Rattle.c_stores.proofs.stores.HeldStore.TheLaws.{the_row_laws}
 use Rattle.std_heap.specs.contracts.Global as Heap
 use Rattle.std_heap.proofs.Handle.{heap_val, heap_Tells}
-use Rattle.kobdzila_c.specs.Storing.{IsPublished}
+use Rattle.c_stores.specs.Storing.{IsPublished}
 use Rattle.kobdzila_c.specs.Shared.{holds_store}
 use Rattle.kobdzila_c.specs.contracts.kobdzila_store_publish as f
 use Rattle.kobdzila_c.proofs.kobdzila_store_publish.Statement.{statement}
 use Rattle.kobdzila_c.proofs.kobdzila_store_publish.Code as code
-use Rattle.kobdzila_c.specs.contracts.stores.publish as g
-use Rattle.kobdzila_c.proofs.stores.publish.Met.{met}
+use Rattle.c_stores.specs.contracts.publish as g
+use Rattle.c_stores.proofs.publish.Met.{met}
 
 abbrev stayed : Stays f.ended.signature.params f.ended.kept
 stayed = (stay_dropped _ yes, (stay_dropped _ yes, tt))
@@ -71,7 +71,7 @@ kobdzila_store_publish_spec 𝓤 𝓛 𝓜 𝓡 wired =
     let z : G.Ghost = ((tt, tt, tt, (a.0, (x, tt)), (heap_val ∷ [], (v ∷ [], tt))), tt) in
     nothing ! $ move ! (1 ∷ 0 ∷ []) $ fjoin ! $ move ! (2 ∷ 0 ∷ []) $ fjoin ! $ nothing ! $ join ! $
     nothing ! $ move ! (1 ∷ 0 ∷ []) $ join ! $ use1 𝓛 (raw (G.pre z)) (id⊢ 𝓤 _) $
-    calls_at ! (framed 𝓤 𝓛.H 𝓜 𝓣) G (met 𝓤 𝓛 𝓜 𝓡 (code.calls-kobdzila_c::stores::publish 𝓡.env wired)) z (and_then !
+    calls_at ! (framed 𝓤 𝓛.H 𝓜 𝓣) G (met 𝓤 𝓛 𝓜 𝓡 (code.calls-c_stores::publish 𝓡.env wired)) z (and_then !
     (get ! refl) (and_then ! (get ! refl) (no_more !))) (λ w.
     use1 𝓛 (later (some (λ (r : HeldStore). (‵ ftrue ⊛ ‵ (R.own_val r (w ∷ []))) ⊛ some (λ (ws : Lasts g.ended z.0.0
     z.0.3). ‵ (lasts g.ended z.0.0 z.0.3 ws) ⊛ raw (fact 𝓤 (IsPublished x r)))))) (id⊢ 𝓤 _) $

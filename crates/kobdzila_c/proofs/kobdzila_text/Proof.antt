@@ -34,13 +34,13 @@ use denote.Triple.Spec.{triple_of}
 use denote.Triple.Table.{framed}
 use denote.Triple.Walked.{Stays, walk_of, stay_dropped, Goes-dropped, ends_at}
 use Rattle.std.proofs.raw_atomic.Walks.{proved}
-use Rattle.kobdzila_c.specs.Listing.{text}
+use Rattle.c_answers.specs.Listing.{text}
 use Rattle.kobdzila_c.specs.Shared.{Text, reads}
 use Rattle.kobdzila_c.specs.contracts.kobdzila_text as f
 use Rattle.kobdzila_c.proofs.kobdzila_text.Statement.{statement}
 use Rattle.kobdzila_c.proofs.kobdzila_text.Code as code
-use Rattle.kobdzila_c.specs.contracts.answers.text as g
-use Rattle.kobdzila_c.proofs.answers.text.Met.{met}
+use Rattle.c_answers.specs.contracts.text as g
+use Rattle.c_answers.proofs.text.Met.{met}
 
 abbrev stayed : Stays f.ended.signature.params f.ended.kept
 stayed = (
@@ -156,7 +156,7 @@ kobdzila_text_spec 𝓤 𝓛 𝓜 𝓡 wired =
     fjoin ! $ move ! (4 ∷ 0 ∷ []) $ fjoin ! $ move ! (4 ∷ 0 ∷ []) $ fjoin ! $ move ! (1 ∷ 0 ∷ []) $ fjoin ! $
     nothing ! $ move ! (3 ∷ 0 ∷ []) $ join ! $ join ! $ nothing ! $ move ! (1 ∷ 0 ∷ []) $ join ! $
     use1 𝓛 (raw (G.pre z)) (id⊢ 𝓤 _) $
-    calls_at ! (framed 𝓤 𝓛.H 𝓜 𝓣) G (met 𝓤 𝓛 𝓜 𝓡 (code.calls-kobdzila_c::answers::text 𝓡.env wired)) z (and_then !
+    calls_at ! (framed 𝓤 𝓛.H 𝓜 𝓣) G (met 𝓤 𝓛 𝓜 𝓡 (code.calls-c_answers::text 𝓡.env wired)) z (and_then !
     (get ! refl) (and_then ! (get ! refl) (and_then ! (get ! refl) (and_then ! (get ! refl) (no_more !))))) (λ v.
     use1 𝓛 (later (some (λ (r : Bor (List ℕ)). ((‵ (flft μ s) ⊛ ‵ ftrue) ⊛ ‵ (R.own_val r (v ∷ []))) ⊛ some (λ (ws :
     Lasts g.ended z.0.0 z.0.3). ‵ (lasts g.ended z.0.0 z.0.3 ws) ⊛ raw (fact 𝓤 (r.now ≡ text x part i k)))))) (id⊢ 𝓤

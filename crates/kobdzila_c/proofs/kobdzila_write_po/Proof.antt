@@ -31,18 +31,18 @@ use denote.Triple.Spec.{triple_of}
 use denote.Triple.Table.{framed}
 use denote.Triple.Walked.{Stays, walk_of, stay_dropped, Goes-dropped, ends_at}
 use Rattle.std.proofs.raw_atomic.Walks.{proved}
-use Rattle.kobdzila_c.specs.declared.outputs.HeldOutput.{HeldOutput}
-use Rattle.kobdzila_c.specs.contracts.outputs.HeldOutput.{the_row as R}
-use Rattle.kobdzila_c.proofs.outputs.HeldOutput.TheLaws.{the_row_laws}
+use Rattle.c_outputs.specs.declared.outputs.HeldOutput.{HeldOutput}
+use Rattle.c_outputs.specs.contracts.outputs.HeldOutput.{the_row as R}
+use Rattle.c_outputs.proofs.outputs.HeldOutput.TheLaws.{the_row_laws}
 use Rattle.std_heap.specs.contracts.Global as Heap
 use Rattle.std_heap.proofs.Handle.{heap_val, heap_Tells}
-use Rattle.kobdzila_c.specs.Outputs.{IsPoText}
+use Rattle.c_outputs.specs.Outputs.{IsPoText}
 use Rattle.kobdzila_c.specs.Shared.{reads, holds_output}
 use Rattle.kobdzila_c.specs.contracts.kobdzila_write_po as f
 use Rattle.kobdzila_c.proofs.kobdzila_write_po.Statement.{statement}
 use Rattle.kobdzila_c.proofs.kobdzila_write_po.Code as code
-use Rattle.kobdzila_c.specs.contracts.outputs.write_text as g
-use Rattle.kobdzila_c.proofs.outputs.write_text.Met.{met}
+use Rattle.c_outputs.specs.contracts.write_text as g
+use Rattle.c_outputs.proofs.write_text.Met.{met}
 
 abbrev stayed : Stays f.ended.signature.params f.ended.kept
 stayed = (stay_dropped _ yes, (stay_dropped _ yes, (stay_dropped _ yes, (stay_dropped _ yes, tt))))
@@ -109,7 +109,7 @@ kobdzila_write_po_spec 𝓤 𝓛 𝓜 𝓡 wired =
     fjoin ! $ move ! (1 ∷ 0 ∷ []) $ fjoin ! $ move ! (3 ∷ 0 ∷ []) $ fjoin ! $
     nothing ! $ move ! (3 ∷ 0 ∷ []) $ join ! $ join ! $ nothing ! $ move ! (1 ∷ 0 ∷ []) $ join ! $
     use1 𝓛 (raw (G.pre z)) (id⊢ 𝓤 _) $
-    calls_at ! (framed 𝓤 𝓛.H 𝓜 𝓣) G (met 𝓤 𝓛 𝓜 𝓡 (code.calls-kobdzila_c::outputs::write_text 𝓡.env wired)) z
+    calls_at ! (framed 𝓤 𝓛.H 𝓜 𝓣) G (met 𝓤 𝓛 𝓜 𝓡 (code.calls-c_outputs::write_text 𝓡.env wired)) z
     (and_then ! (get ! refl) (and_then ! (get ! refl) (and_then ! (get ! refl) (no_more !)))) (λ v.
     use1 𝓛 (later (some (λ (r : HeldOutput). ((‵ (flft μ s) ⊛ ‵ ftrue) ⊛ ‵ (R.own_val r (v ∷ []))) ⊛ some (λ (ws :
     Lasts g.ended z.0.0 z.0.3). ‵ (lasts g.ended z.0.0 z.0.3 ws) ⊛ raw (fact 𝓤 (IsText r)))))) (id⊢ 𝓤 _) $

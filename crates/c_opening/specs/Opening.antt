@@ -1,0 +1,133 @@
+-- What C holds after opening bytes: their catalogue, or the number of the fault and its line.
+use Rattle.std.specs.Prelude.{◌≡◌, ◌⊎◌, ℕ, ◌+◌, ◌==◌, if◌then◌else◌, nat_lt, Bool, true, false, List, None, MatchOption}
+use Rattle.std.specs.Arc.{arc_value}
+use Rattle.mo_image.specs.Entry.{Entry}
+use Rattle.mo_file.specs.MoReading.{Mo, Refused, rank as mo_number}
+use Rattle.mo_segments.specs.declared.fault.DependentFault.{DependentFault}
+use Rattle.mo_segments.specs.declared.fault.DependentFault.TheVariants as dependent
+use Rattle.mo_revisions.specs.declared.fault.AnyMoFault.{AnyMoFault}
+use Rattle.mo_revisions.specs.declared.fault.AnyMoFault.TheVariants.{Tables, Dependent, Mo as OfMo}
+use Rattle.mo_charsets.specs.MoRecoding.{AnyCharsetMo}
+use Rattle.mo_charsets.specs.MoFailing.{AnyCharsetRefused}
+use Rattle.mo_charsets.specs.declared.fault.RecodedFault.{RecodedFault}
+use Rattle.mo_charsets.specs.declared.fault.RecodedFault.TheVariants as recoded
+use Rattle.catalogue.specs.Meaning.{Means, Refuses, rank}
+use Rattle.catalogue.specs.declared.compiler.Compiled.{Compiled}
+use Rattle.catalogue.specs.declared.compiler.Stats.{Stats}
+use Rattle.any_charset.specs.Recoding.{MeansAny, RefusesAny}
+use Rattle.any_charset.specs.declared.fault.TextFault.{TextFault}
+use Rattle.any_charset.specs.declared.fault.TextFault.TheVariants.{Load, NoCharacter}
+use Rattle.po_checks.specs.Refusal.{out_of_memory}
+use Rattle.po_checks.specs.declared.fault.LoadKind.{LoadKind}
+use Rattle.po_checks.specs.declared.fault.LoadKind.TheVariants.{Memory}
+use Rattle.po_checks.specs.declared.options.Options.{Options}
+use Rattle.c_answers.specs.declared.opened.Opened.{Opened}
+use Rattle.c_answers.specs.Numbers.{no_fault, memory_fault, tables_fault, mo_no_character_fault, po_faults}
+use Rattle.c_answers.specs.Numbers.{no_character_fault}
+
+-- the number of a fault of a PO text; out of memory has one number in both formats
+abbrev pub fault_number : LoadKind → ℕ
+fault_number kind = if rank kind == rank Memory then memory_fault else po_faults + rank kind
+
+-- the number of a fault of an MO file's system-dependent part: these follow that of the tables
+abbrev pub dependent_number : DependentFault → ℕ
+dependent_number dependent.Segment = tables_fault + 1
+dependent_number dependent.Descriptor = tables_fault + 2
+dependent_number dependent.SegmentNumber = tables_fault + 3
+dependent_number dependent.Text = tables_fault + 4
+dependent_number dependent.OpenText = tables_fault + 5
+dependent_number dependent.Swollen = tables_fault + 6
+dependent_number dependent.Memory = memory_fault
+
+-- the number of a fault of an MO file of any revision
+abbrev pub mo_fault_number : AnyMoFault → ℕ
+mo_fault_number Tables = tables_fault
+mo_fault_number (Dependent fault) = dependent_number fault
+mo_fault_number (OfMo fault) = mo_number fault
+
+-- the number of a fault of an MO file of any revision, in any charset
+abbrev pub file_fault_number : RecodedFault → ℕ
+file_fault_number (recoded.Any fault) = mo_fault_number fault
+file_fault_number recoded.NoCharacter = mo_no_character_fault
+
+-- the options given by two numbers: each is on if its number isn't 0
+abbrev pub options_of : ℕ → ℕ → Options
+options_of checked use_fuzzy = record { checked = nat_lt 0 checked; use_fuzzy = nat_lt 0 use_fuzzy }
+
+-- the number and the line of a fault of a PO text in any charset
+abbrev pub text_fault_number : TextFault → ℕ
+text_fault_number (Load fault) = fault_number fault.kind
+text_fault_number (NoCharacter line) = no_character_fault
+
+abbrev pub line_of : TextFault → ℕ
+line_of (Load fault) = fault.line
+line_of (NoCharacter line) = line
+
+-- the counts of what isn't a PO text
+abbrev pub no_stats : Stats
+no_stats = record { translated = 0; fuzzy = 0; untranslated = 0 }
+
+-- no catalogue, for this reason
+pub record IsRefused (c : Opened) (fault line : ℕ) : Type 0 where
+  pub none : c.catalogue ≡ None
+  pub fault_is : c.fault ≡ fault
+  pub line_is : c.line ≡ line
+  pub stats_are : c.stats ≡ no_stats
+
+-- a catalogue whose map and counts have this property, and no fault
+pub record IsOpenedAs (Is : List Entry → Stats → Type 0) (c : Opened) : Type 0 where
+  pub map : MatchOption c.catalogue ⊥ (λ shared. Is (arc_value shared) c.stats)
+  pub fault_is : c.fault ≡ no_fault
+  pub line_is : c.line ≡ 0
+
+-- the catalogue of this map with these counts, or out of memory
+abbrev pub IsOpenedMap : List Entry → Stats → Opened → Type 0
+IsOpenedMap m stats c = IsOpenedAs (λ map counts. (map ≡ m) × (counts ≡ stats)) c ⊎ IsRefused c memory_fault 0
+
+-- the bytes are an MO file of this map: if is_strict of revision 0.0 in UTF-8, and otherwise of any revision in any
+-- charset
+abbrev pub MeansMo : List ℕ → Bool → List Entry → Type 0
+MeansMo bytes true m = Mo bytes m
+MeansMo bytes false m = AnyCharsetMo bytes m
+
+-- the bytes are refused by the reader of revision 0.0
+abbrev pub RefusesStrictMo : List ℕ → RecodedFault → Type 0
+RefusesStrictMo bytes (recoded.Any (OfMo fault)) = Refused bytes fault
+RefusesStrictMo bytes _ = ⊥
+
+-- the bytes are refused: if is_strict by the reader of revision 0.0, and otherwise by that of all revisions and
+-- charsets
+abbrev pub RefusesMo : List ℕ → Bool → RecodedFault → Type 0
+RefusesMo bytes true fault = RefusesStrictMo bytes fault
+RefusesMo bytes false fault = AnyCharsetRefused bytes fault
+
+-- the map of an MO file, or its first fault, or out of memory
+abbrev pub IsOpenedMo : List ℕ → Bool → Opened → Type 0
+IsOpenedMo bytes is_strict c = IsOpenedAs (λ map counts. MeansMo bytes is_strict map × (counts ≡ no_stats)) c
+    ⊎ (fault : RecodedFault) × RefusesMo bytes is_strict fault × IsRefused c (file_fault_number fault) 0
+
+-- the text compiles to this: if is_strict as UTF-8, and otherwise in any charset
+abbrev pub MeansText : List ℕ → Options → Bool → Compiled → Type 0
+MeansText text options true compiled = Means text options compiled
+MeansText text options false compiled = MeansAny text options compiled
+
+-- the text is refused as UTF-8, or memory ran out
+abbrev pub RefusesStrict : List ℕ → Options → TextFault → Type 0
+RefusesStrict text options (Load fault) = (fault ≡ out_of_memory) ⊎ Refuses text options fault.kind fault.line
+RefusesStrict text options (NoCharacter line) = ⊥
+
+-- the text is refused: if is_strict as UTF-8, and otherwise in any charset
+abbrev pub RefusesText : List ℕ → Options → Bool → TextFault → Type 0
+RefusesText text options true fault = RefusesStrict text options fault
+RefusesText text options false fault = RefusesAny text options fault
+
+-- the text compiles to this map with these counts
+abbrev pub MeansMap : List ℕ → Options → Bool → List Entry → Stats → Type 0
+MeansMap text options is_strict m stats = (compiled : Compiled) × MeansText text options is_strict compiled
+    × (compiled.catalogue ≡ m) × (compiled.stats ≡ stats)
+
+-- the map that a PO text compiles to, or its first fault, or out of memory
+abbrev pub IsOpenedPo : List ℕ → Options → Bool → Opened → Type 0
+IsOpenedPo text options is_strict c = IsOpenedAs (MeansMap text options is_strict) c
+    ⊎ (fault : TextFault) × RefusesText text options is_strict fault
+    × IsRefused c (text_fault_number fault) (line_of fault)

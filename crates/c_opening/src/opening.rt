@@ -1,0 +1,211 @@
+//! Opening bytes: the catalogue of an MO file or of a PO text, or the number and the line of why it is refused.
+ghost use Rattle.std.specs.Prelude.{◌≡◌, ◌⊎◌, IfOk, IfErr, nat_lt};
+ghost use Rattle.std.specs.Arc.{arc_value};
+ghost use Rattle.catalogue.specs.Meaning.{Means, Refuses};
+ghost use Rattle.po_checks.specs.Refusal.{out_of_memory};
+ghost use Rattle.c_opening.specs.Opening.{IsOpenedMo, IsOpenedPo, IsOpenedMap, IsRefused, fault_number, no_stats};
+ghost use Rattle.c_opening.specs.Opening.{MeansText, RefusesText, line_of, options_of, text_fault_number};
+ghost use Rattle.c_opening.specs.Opening.{MeansMo, RefusesMo, dependent_number, file_fault_number, mo_fault_number};
+
+use any_charset::{TextFault, compile_recoded, is_for_charset};
+use c_answers::Opened;
+use c_answers::numbers::{
+    DEPENDENT_DESCRIPTOR, DEPENDENT_OPEN_TEXT, DEPENDENT_SEGMENT, DEPENDENT_SEGMENT_NUMBER,
+    DEPENDENT_SWOLLEN, DEPENDENT_TABLES, DEPENDENT_TEXT, MEMORY, MO_NO_CHARACTER, NO_CHARACTER,
+    NO_FAULT, PO_FAULTS, PO_MEMORY,
+};
+use catalogue::{Catalogue, Compiled, LoadFault, LoadKind, Options, Stats, compile_owned};
+use live_loads::{mo_number, po_number};
+use mo_charsets::{RecodedFault, read_any_charset};
+use mo_file::read_mo;
+use mo_revisions::AnyMoFault;
+use mo_segments::DependentFault;
+use std::alloc::{AllocError, Global};
+use std::sync::Arc;
+
+/// The counts of what isn't a PO text.
+const NO_STATS: Stats = Stats {
+    translated: 0,
+    fuzzy: 0,
+    untranslated: 0,
+};
+
+/// The number in `kobdzila.h` of a fault of a PO text.
+fn fault_number(kind: LoadKind) -> u32
+    ensures { result ≡ fault_number kind }
+{
+    match po_number(kind) {
+        PO_MEMORY => MEMORY,
+        number => PO_FAULTS + number,
+    }
+}
+
+/// No catalogue, for this reason.
+fn refused(fault: u32, line: u32) -> Opened
+    ensures { IsRefused result fault line }
+{
+    Opened {
+        catalogue: None,
+        fault,
+        line,
+        stats: NO_STATS,
+    }
+}
+
+/// Builds the catalogue's index, and makes the catalogue shareable.
+fn shared(alloc: Global, mut catalogue: Catalogue) -> Result<Arc<Catalogue>, AllocError>
+    ensures { IfOk result (λ shared. arc_value shared ≡ catalogue) }
+{
+    catalogue.index(alloc)?;
+    Ok(Arc::new(alloc, catalogue)?)
+}
+
+/// A catalogue as C holds it, or out of memory.
+fn kept(alloc: Global, catalogue: Catalogue, stats: Stats) -> Opened
+    ensures { IsOpenedMap catalogue stats result }
+{
+    match shared(alloc, catalogue) {
+        Ok(catalogue) => Opened {
+            catalogue: Some(catalogue),
+            fault: NO_FAULT,
+            line: 0,
+            stats,
+        },
+        Err(_) => refused(MEMORY, 0),
+    }
+}
+
+/// The number in `kobdzila.h` of a fault of a file's system-dependent part.
+fn dependent_number(fault: DependentFault) -> u32
+    ensures { result ≡ dependent_number fault }
+{
+    match fault {
+        DependentFault::Segment => DEPENDENT_SEGMENT,
+        DependentFault::Descriptor => DEPENDENT_DESCRIPTOR,
+        DependentFault::SegmentNumber => DEPENDENT_SEGMENT_NUMBER,
+        DependentFault::Text => DEPENDENT_TEXT,
+        DependentFault::OpenText => DEPENDENT_OPEN_TEXT,
+        DependentFault::Swollen => DEPENDENT_SWOLLEN,
+        DependentFault::Memory => MEMORY,
+    }
+}
+
+/// The number in `kobdzila.h` of a fault of an MO file.
+fn mo_fault_number(fault: AnyMoFault) -> u32
+    ensures { result ≡ mo_fault_number fault }
+{
+    match fault {
+        AnyMoFault::Tables => DEPENDENT_TABLES,
+        AnyMoFault::Dependent(fault) => dependent_number(fault),
+        AnyMoFault::Mo(fault) => mo_number(fault),
+    }
+}
+
+/// The number in `kobdzila.h` of a fault of an MO file in any charset.
+fn file_fault_number(fault: RecodedFault) -> u32
+    ensures { result ≡ file_fault_number fault }
+{
+    match fault {
+        RecodedFault::Any(fault) => mo_fault_number(fault),
+        RecodedFault::NoCharacter => MO_NO_CHARACTER,
+    }
+}
+
+/// Reads an MO file of any revision in any charset, or if `is_strict` of revision 0.0 in UTF-8 alone.
+fn read_file(alloc: Global, bytes: &[u8], is_strict: bool) -> Result<Catalogue, RecodedFault>
+    ensures ok { IfOk result (MeansMo bytes.now is_strict) }
+    ensures err { IfErr result (RefusesMo bytes.now is_strict) }
+{
+    if !is_strict {
+        return read_any_charset(alloc, bytes);
+    }
+    match read_mo(alloc, bytes) {
+        Ok(catalogue) => Ok(catalogue),
+        Err(fault) => Err(RecodedFault::from(fault)),
+    }
+}
+
+/// The catalogue of an MO file, or the first reason why it is refused. The option `strict` is on if it isn't 0.
+pub fn open_mo(alloc: Global, bytes: &[u8], strict: u32) -> Opened
+    ensures { IsOpenedMo bytes.now (nat_lt 0 strict) result }
+{
+    match read_file(alloc, bytes, strict > 0) {
+        Ok(catalogue) => kept(alloc, catalogue, NO_STATS),
+        Err(fault) => refused(file_fault_number(fault), 0),
+    }
+}
+
+/// Copies bytes that C lent.
+pub fn copied(alloc: Global, bytes: &[u8]) -> Result<Vec<u8>, AllocError>
+    ensures { IfOk result (λ copy. copy.items ≡ bytes.now) }
+{
+    let mut copy = Vec::with_capacity(alloc, bytes.len())?;
+    copy.extend_from_slice(bytes)?;
+    Ok(copy)
+}
+
+/// Compiles a copy of a PO text, which C's threads can't write to meanwhile. The MO file is written over the copy.
+fn compile_copy(alloc: Global, bytes: &[u8], options: Options) -> Result<Compiled, LoadFault>
+    ensures ok { IfOk result (Means bytes.now options) }
+    ensures err { IfErr result (λ fault. (fault ≡ out_of_memory) ⊎ Refuses bytes.now options fault.kind fault.line) }
+{
+    compile_owned(alloc, copied(alloc, bytes)?, options)
+}
+
+/// Compiles a PO text in any charset, or if `is_strict` in UTF-8 alone.
+fn compile_text(
+    alloc: Global,
+    bytes: &[u8],
+    options: Options,
+    is_strict: bool,
+) -> Result<Compiled, TextFault>
+    ensures ok { IfOk result (MeansText bytes.now options is_strict) }
+    ensures err { IfErr result (RefusesText bytes.now options is_strict) }
+{
+    match compile_copy(alloc, bytes, options) {
+        Ok(compiled) => Ok(compiled),
+        Err(fault) if !is_strict && is_for_charset(fault.kind) => compile_recoded(
+            alloc, bytes, options, fault,
+        ),
+        Err(fault) => Err(TextFault::Load(fault)),
+    }
+}
+
+/// The number in `kobdzila.h` of a fault of a PO text in any charset, and its line.
+pub fn number_and_line(fault: TextFault) -> (u32, u32)
+    ensures number { result.0 ≡ text_fault_number fault }
+    ensures line { result.1 ≡ line_of fault }
+{
+    match fault {
+        TextFault::Load(LoadFault { kind, line }) => (fault_number(kind), line),
+        TextFault::NoCharacter(line) => (NO_CHARACTER, line),
+    }
+}
+
+/// No catalogue, for the fault of a PO text.
+fn refused_text(fault: TextFault) -> Opened
+    ensures { IsRefused result (text_fault_number fault) (line_of fault) }
+{
+    let (number, line) = number_and_line(fault);
+    refused(number, line)
+}
+
+/// The options that two numbers give: each is on if its number isn't 0.
+pub fn options_of(checked: u32, use_fuzzy: u32) -> Options
+    ensures { result ≡ options_of checked use_fuzzy }
+{
+    Options {
+        checked: checked > 0,
+        use_fuzzy: use_fuzzy > 0,
+    }
+}
+
+/// The catalogue of a PO text, or the first reason why it is refused. An option is on if its number isn't 0.
+pub fn open_po(alloc: Global, bytes: &[u8], checked: u32, use_fuzzy: u32, strict: u32) -> Opened
+    ensures { IsOpenedPo bytes.now (options_of checked use_fuzzy) (nat_lt 0 strict) result }
+{
+    match compile_text(alloc, bytes, options_of(checked, use_fuzzy), strict > 0) {
+        Ok(compiled) => kept(alloc, compiled.catalogue, compiled.stats),
+        Err(fault) => refused_text(fault),
+    }
+}

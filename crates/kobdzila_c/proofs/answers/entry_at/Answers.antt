@@ -1,5 +1,0 @@
-use Rattle.std.proofs.Common.{rules}
-use Rattle.kobdzila_c.proofs.answers.entry_at.Goals as goal
-
-pub returns-then-i-len : goal.returns-then-i-len
-returns-then-i-len c = search rules

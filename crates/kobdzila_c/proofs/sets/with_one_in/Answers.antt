@@ -1,5 +1,0 @@
-use Rattle.std.proofs.Common.{rules}
-use Rattle.kobdzila_c.proofs.sets.with_one_in.Goals as goal
-
-pub returns-then-not-are_names : goal.returns-then-not-are_names
-returns-then-not-are_names c = search rules

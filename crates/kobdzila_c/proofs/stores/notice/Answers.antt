@@ -1,5 +1,0 @@
-use Rattle.std.proofs.Common.{rules}
-use Rattle.kobdzila_c.proofs.stores.notice.Goals as goal
-
-pub returns : goal.returns
-returns c = search rules
