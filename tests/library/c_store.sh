@@ -58,9 +58,9 @@ if sanitized "$name, sanitized" address,undefined; then
   fi
 fi
 
-# the programs of the man page: a look-up, and eight threads that look up while two catalogues are replaced
-name='the programs of kobdzila(3)'
-sed -n '/^\.SH EXAMPLES/,$p' docs/man/kobdzila.3 | sed -n '/^\.nf/,/^\.fi/p' | sed '/^\.nf/d; s/\\e/\\/g' > "$room/programs"
+# the programs of the man pages: a look-up, and eight threads that look up while two catalogues are replaced
+name='the programs of kobdzila(3) and kob_store(3)'
+sed -n '/^\.SH EXAMPLES/,/^\.SH SEE/p' docs/man/kobdzila.3 docs/man/kob_store.3 | sed -n '/^\.nf/,/^\.fi/p' | sed '/^\.nf/d; s/\\e/\\/g' > "$room/programs"
 awk -v room="$room" 'BEGIN { n = 1 } /^\.fi/ { n++; next } { print > (room "/example" n ".c") }' "$room/programs"
 if compiles "$name, 1" one "$room/example1.c" "$library/libkobdzila.a" &&
   compiles "$name, 2" two "$room/example2.c" "$library/libkobdzila.a"; then
