@@ -55,8 +55,9 @@ SECONDS = 600
 RT = rt
 export RT
 version = $(shell cat VERSION)
-# (each function of the library has a manual page, which is that of all of them)
+# (each function of the library has a manual page, which is that of its group)
 functions = $(shell sed -n 's/^    \(kob_[a-z_]*\);/\1/p' c/library/kobdzila.map)
+library_pages = $(wildcard docs/man/*.3)
 
 EXAMPLES = fr pl
 PROGRAMS = msgfmt catserve catsession
@@ -201,14 +202,15 @@ install_library:
 	sed -e 's|@PREFIX@|$(PREFIX)|g' -e 's|@LIBDIR@|$(LIBDIR:$(PREFIX)/%=$${prefix}/%)|g' -e 's|@VERSION@|$(version)|' \
 	  c/library/kobdzila.pc.in > "$(to)$(LIBDIR)/pkgconfig/kobdzila.pc"
 	chmod 644 "$(to)$(LIBDIR)/pkgconfig/kobdzila.pc"
-	$(page) docs/man/kobdzila.3 > "$(to)$(mandir)/man3/kobdzila.3"
-	for name in $(functions); do echo '.so man3/kobdzila.3' > "$(to)$(mandir)/man3/$$name.3"; done
-	chmod 644 "$(to)$(mandir)/man3/kobdzila.3" $(functions:%="$(to)$(mandir)/man3/%.3")
+	for name in $(functions); do \
+	  echo ".so man3/$$(basename "$$(grep -l "^\.BI* .*[ *]$$name(" $(library_pages))")" > "$(to)$(mandir)/man3/$$name.3"; done
+	for page in $(library_pages); do $(page) $$page > "$(to)$(mandir)/man3/$${page##*/}" || exit 1; done
+	chmod 644 $(functions:%="$(to)$(mandir)/man3/%.3") $(library_pages:docs/man/%="$(to)$(mandir)/man3/%")
 
 uninstall_library:
-	rm -f $(functions:%="$(to)$(mandir)/man3/%.3")
+	rm -f $(functions:%="$(to)$(mandir)/man3/%.3") $(library_pages:docs/man/%="$(to)$(mandir)/man3/%")
 	rm -f "$(to)$(LIBDIR)/libkobdzila.a" "$(to)$(LIBDIR)/$(SHARED)" "$(to)$(LIBDIR)/libkobdzila.so"
-	rm -f "$(to)$(includedir)/kobdzila.h" "$(to)$(LIBDIR)/pkgconfig/kobdzila.pc" "$(to)$(mandir)/man3/kobdzila.3"
+	rm -f "$(to)$(includedir)/kobdzila.h" "$(to)$(LIBDIR)/pkgconfig/kobdzila.pc"
 	rm -f "$(to)$(preloaddir)/$(PRELOADED)"
 	rmdir "$(to)$(preloaddir)" 2> /dev/null || true
 

@@ -1,7 +1,7 @@
 //! A safe handle for each type of the C library.
 //!
 //! All calls of `kobdzila-sys` are here, and with them the `unsafe` code of this crate; `sys/inotify.rs` has the calls
-//! of the C library's own. A safety comment that cites the header means its words, which kobdzila(3) repeats.
+//! of the C library's own. A safety comment that cites the header means its words, which the manual pages repeat.
 
 use std::ffi::{CStr, CString};
 use std::io;

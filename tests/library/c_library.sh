@@ -156,6 +156,6 @@ else
   if [ -z "$left" ]; then ok "$name, and uninstalled"; else failed "$name, and uninstalled" "$left"; fi
 fi
 if tests/lib/needs mandoc mandoc; then
-  said=$(mandoc -T lint docs/man/kobdzila.3 2>&1 | head -n 2)
-  if [ -z "$said" ]; then ok 'the page of the C library'; else failed 'the page of the C library' "$said"; fi
+  said=$(mandoc -T lint docs/man/*.3 2>&1 | head -n 2)
+  if [ -z "$said" ]; then ok 'the pages of the C library'; else failed 'the pages of the C library' "$said"; fi
 fi

@@ -67,9 +67,9 @@ if tools/machine_archive "$room/machine.a" cc -std=c11 -O2 > "$room/log" 2>&1 &&
   runs "$name" "$room/exports"
 fi
 
-# the programs of the man page: a look-up, and eight threads that look up while two catalogues are replaced
-name='the programs of kobdzila(3)'
-sed -n '/^\.SH EXAMPLES/,$p' docs/man/kobdzila.3 | sed -n '/^\.nf/,/^\.fi/p' | sed '/^\.nf/d; s/\\e/\\/g' > "$room/programs"
+# the programs of the man pages: a look-up, and eight threads that look up while two catalogues are replaced
+name='the programs of kobdzila(3) and kob_store(3)'
+sed -n '/^\.SH EXAMPLES/,/^\.SH SEE/p' docs/man/kobdzila.3 docs/man/kob_store.3 | sed -n '/^\.nf/,/^\.fi/p' | sed '/^\.nf/d; s/\\e/\\/g' > "$room/programs"
 awk -v room="$room" 'BEGIN { n = 1 } /^\.fi/ { n++; next } { print > (room "/example" n ".c") }' "$room/programs"
 if compiles "$name, 1" one "$room/example1.c" "$library/libkobdzila.a" &&
   compiles "$name, 2" two "$room/example2.c" "$library/libkobdzila.a"; then

@@ -28,7 +28,7 @@ MSGFMT_PAGE = "docs/man/msgfmt.1"
 CATSERVE_PAGE = "docs/man/catserve.1"
 SESSION_PAGE = "docs/man/catsession.1"
 DRIVER_PAGE = "docs/man/msgfmt-or-gnu.1"
-LIBRARY_PAGE = "docs/man/kobdzila.3"
+LIBRARY_PAGES = sorted(str(path.relative_to(TOP)) for path in TOP.glob("docs/man/*.3"))
 DECISIONS = "docs/internals/decisions/README.md"
 TROUBLES = "docs/guide/troubleshooting.md"
 DRIVER_OPTIONS = "c/driver/or_gnu_words.c"
@@ -181,16 +181,17 @@ def faults_of_the_header():
 
 
 def functions_of_the_library():
-    """the functions of the C library: header, man page with its synopsis, version script"""
+    """the functions of the C library: header, the man page whose synopsis has each, version script"""
     code = re.sub(r"/\*.*?\*/", " ", read(HEADER), flags=re.S)
     wanted = set(re.findall(r"\b(kob_\w+)\(", code))
-    synopsis, text = read(LIBRARY_PAGE).split(".SH DESCRIPTION")
+    pages = [read(name).split(".SH DESCRIPTION") for name in LIBRARY_PAGES]
+    synopsis, text = ("".join(parts) for parts in zip(*pages))
     described = {it for it in re.findall(r"\bkob_\w+", text) if it in wanted}
     # (the look-ups in a set are described as those in a catalogue)
     described |= {it for it in wanted if it.startswith("kob_set_") and it.replace("_set_", "_") in described}
     listed = set(re.findall(r"^    (kob_\w+);", read("c/library/kobdzila.map"), re.M))
-    return (differences(f"{LIBRARY_PAGE}, its synopsis", set(re.findall(r"(kob_\w+)\(", synopsis)), wanted)
-            + differences(LIBRARY_PAGE, described, wanted) + differences("c/library/kobdzila.map", listed, wanted))
+    return (differences("docs/man, the synopses", sorted(re.findall(r"(kob_\w+)\(", synopsis)), sorted(wanted))
+            + differences("docs/man", described, wanted) + differences("c/library/kobdzila.map", listed, wanted))
 
 
 def completed(program, with_value=False):
@@ -419,7 +420,7 @@ def limits():
     allowed = {text, text + 1, file}
     guides = [str(path.relative_to(TOP)) for path in sorted(TOP.glob("docs/guide/*.md"))]
     for place in (PO, HEADERS, MO, LOOK_UPS, COMMAND, SCRIPT_PAGE, MSGFMT_PAGE, CATSERVE_PAGE, SESSION_PAGE,
-                  DRIVER_PAGE, LIBRARY_PAGE, "SECURITY.md", *guides):
+                  DRIVER_PAGE, *LIBRARY_PAGES, "SECURITY.md", *guides):
         numbers = {int(it.replace(",", "")) for it in re.findall(r"\d{1,3}(?:,\d{3})+", plain(place))}
         wrong += [f"{place}: {it:,} is no limit" for it in sorted(numbers) if it >= LEAST_LIMIT and it not in allowed]
     return wrong

@@ -111,8 +111,8 @@ docs/reference/po.md^(c-formats.md)^(../guide/c.md)
 docs/guide/catsession.md^67,108,864^67,108,863
 docs/internals/questions.md^[python.md](../guide/python.md), ^
 docs/man/kobdzila.3^268,435,456^268,435,455
-docs/man/kobdzila.3^.B kob_store_retained^.B kob_store_kept
-docs/man/kobdzila.3^.BI "kob_reader *kob_store_reader(^.BI "kob_reader *kob_reader_new(
+docs/man/kob_store.3^.B kob_store_retained^.B kob_store_kept
+docs/man/kob_store.3^.BI "kob_reader *kob_store_reader(^.BI "kob_reader *kob_reader_new(
 c/library/kobdzila.map^    kob_reader_free;^
 docs/images/snapshot.svg^version 7^version 9
 README.md^a refused load changes nothing.^a refused load changes little.

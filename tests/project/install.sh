@@ -85,11 +85,13 @@ completes() {
   if [ "$answer" = "$2" ]; then ok "$1"; else failed "$1" "'$answer' and not '$2'"; fi
 }
 
-# manual NAME: each function of the header has a page, which leads to the one of the library
+# manual NAME: each function of the header has a page, or leads to that of its group
 manual() {
-  local at=$room/image$room/usr/share/man/man3 it wrong=''
+  local at=$room/image$room/usr/share/man/man3 it page wrong=''
   for it in $(grep -oE '\bkob_[a-z_]+\(' include/kobdzila.h | tr -d '(' | sort -u); do
-    [ -f "$at/$it.3" ] && [ -s "$room/image$room/usr/share/man/$(sed -n 's/^\.so //p' "$at/$it.3")" ] || wrong+="$it "
+    page=$at/$it.3
+    grep -q '^\.so ' "$page" && page=$room/image$room/usr/share/man/$(sed -n 's/^\.so //p' "$page")
+    sed -n '/^\.SH SYNOPSIS/,/^\.SH DESCRIPTION/p' "$page" | grep -q "[ *]$it(" || wrong+="$it "
   done
   if [ -z "$wrong" ]; then ok "$1"; else failed "$1" "no page for $wrong"; fi
 }

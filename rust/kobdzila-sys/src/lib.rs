@@ -1,8 +1,8 @@
 //! The functions of `kobdzila.h`, the header of libkobdzila, as Rust declares them.
 //!
-//! The header and the manual page kobdzila(3) say what each function does, who owns what it returns, and what a caller
-//! must ensure. The names are those of C, and an enum of C is a number here: a newer library may return one that this
-//! crate doesn't know. The crate `kobdzila` is a safe interface over it.
+//! The header and the manual pages from kobdzila(3) on say what each function does, who owns what it returns, and what
+//! a caller must ensure. The names are those of C, and an enum of C is a number here: a newer library may return one
+//! that this crate doesn't know. The crate `kobdzila` is a safe interface over it.
 //!
 //! ```
 //! use kobdzila_sys::{kob_find, kob_open_po, kob_release, kob_refusal, kob_text};
