@@ -130,7 +130,8 @@ def folders_of(asked: argparse.Namespace) -> Iterable[str]:
 
 def listed(folder: str) -> tuple[list[Listed], list[Listed]]:
     """Return the folders in a folder, and its other entries: none if it can't be read. (os.walk takes twice the time.)"""
-    folders, others = [], []
+    folders: list[Listed] = []
+    others: list[Listed] = []
     try:
         with os.scandir(folder) as entries:
             for it in entries:

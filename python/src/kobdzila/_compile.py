@@ -129,7 +129,8 @@ def compile_all(jobs: Sequence[Job], options: Options, processes: int) -> Iterat
 
 def plain(done: Done) -> Plain:
     """Return what a job resulted in by plain tuples, which go to another process."""
-    return done.line, done.fault, done.counts and tuple(done.counts)
+    counts = done.counts
+    return done.line, done.fault, counts and (counts.messages, counts.translated, counts.fuzzy)
 
 
 def done_of(job: Job, found: Plain) -> Done:
