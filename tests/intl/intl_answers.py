@@ -417,7 +417,7 @@ def single_bytes(folder: Path) -> list[Case]:
         cases += [Case(["codeset", domain, codeset, *words], {"LANGUAGE": "fr"})
                   for codeset in ("UTF-8", charset, "ISO-8859-1", "KOI8-R", "EUC-JP")]
         cases.append(Case(words, {"LANGUAGE": "fr", "OUTPUT_CHARSET": charset}))
-        if charset not in ("CP1255", "CP1258"):
+        if charset not in ("CP1255", "CP1258", "TIS-620"):  # (Python's TIS-620 has bytes that iconv's hasn't)
             byte = max(entries)
             cases.append(Case(["bind", domain, str(folder), "ask", domain, "none", "descriptors", "3", "ask", domain,
                                byte.decode()], {"LANGUAGE": "fr"},
