@@ -110,10 +110,19 @@ static void end_refused(const struct run *run, struct catalogue *it, kob_refusal
         hand_to_gnu(run, it, why.fault == KOB_PO_TOO_LARGE || scan(run, text).helps);
 }
 
+/* Whether a text has `#=`. (memmem looks at each byte, and takes a tenth of the time of a whole compilation.) */
+static bool has_flag_mark(struct text_bytes text) {
+    const char *end = text.at + text.len;
+    for (const char *at = text.at; at < end && (at = memchr(at, '=', (size_t)(end - at))); at++)
+        if (at > text.at && at[-1] == '#')
+            return true;
+    return false;
+}
+
 /* Compile a text with flags in `#=` lines, which Kobdzila's compiler takes for comments, with a GNU msgfmt that knows
  * them. False if the text has none. */
 static bool serve_flag_lines(const struct run *run, struct catalogue *it, struct text_bytes text) {
-    size_t line = memmem(text.at, text.len, "#=", 2) ? scan(run, text).line : 0;
+    size_t line = has_flag_mark(text) ? scan(run, text).line : 0;
     if (!line)
         return false;
     it->outcome = IS_REFUSED;

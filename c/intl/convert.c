@@ -118,10 +118,10 @@ static enum conversion convert_from(const char *from, struct block bytes, struct
 static int join_forms(const struct catalogue *c, size_t place, size_t forms, struct block *joined) {
     size_t most = 0;
     for (size_t i = 0; i < forms; i++)
-        most += kob_form_at(c->held, place, i).len + 1;
+        most += form_of(c, place, i).len + 1;
     *joined = (struct block){ malloc(most), 0 };
     for (size_t i = 0; joined->at && i < forms; i++) {
-        kob_text form = kob_form_at(c->held, place, i);
+        kob_text form = form_of(c, place, i);
         char *to = joined->at + joined->len;
         if (c->is_coded)
             joined->len += decode(to, form.at, form.len);
@@ -134,7 +134,7 @@ static int join_forms(const struct catalogue *c, size_t place, size_t forms, str
 
 static int is_kept(const struct catalogue *c, size_t place, size_t forms, const struct codeset *to) {
     for (size_t i = 0; i < forms; i++)
-        if (!converted(to, kob_form_at(c->held, place, i).at))
+        if (!converted(to, form_of(c, place, i).at))
             return 0;
     return 1;
 }
@@ -144,7 +144,7 @@ static int is_kept(const struct catalogue *c, size_t place, size_t forms, const 
 static int keep_forms(const struct catalogue *c, size_t place, size_t forms, struct codeset *to, struct block block) {
     const char *at = block.at, *end = block.at + block.len;
     for (size_t i = 0; i < forms; i++) {
-        if (!keep_converted(to, kob_form_at(c->held, place, i).at, at < end ? at : block.at))
+        if (!keep_converted(to, form_of(c, place, i).at, at < end ? at : block.at))
             return 0;
         at += at < end ? strnlen(at, (size_t)(end - at)) + 1 : 0;
     }

@@ -155,9 +155,10 @@ struct stamp {
 struct catalogue {
     struct catalogue *earlier; /* of the same file, before that changed */
     kob_catalogue *held;
+    char *header;    /* as it was in the file, but for its charset in UTF-8, if libkobdzila decoded the texts; or NULL */
     int is_coded;    /* its strings are coded byte by byte (image.c), since they aren't UTF-8 */
     int has_charset; /* its header names one; otherwise its texts are as they are wanted, in whatever codeset */
-    char charset[MOST_CHARSET + 1];
+    char charset[MOST_CHARSET + 1]; /* that its texts are in, if they aren't coded */
 };
 struct file {
     struct named named;
@@ -200,7 +201,11 @@ enum reading { ROWS_READ, NO_ROWS, NO_MEMORY };
 /* Read the rows of a file of major revision 0 or 1. All of their strings are in the file, or in `made`. */
 enum reading read_rows(const unsigned char *bytes, size_t len, struct rows *rows);
 
-/* Return the header in a file of revision 0.0 that libkobdzila opens; NULL if there is none. */
+/* Whether a file has another revision than 0.0; and whether the C library refuses it then, since it has no hash table. */
+int is_revised(const unsigned char *bytes);
+int lacks_hash_table(const unsigned char *bytes);
+
+/* Return the header in a file that libkobdzila opens; NULL if its first row isn't one. */
 const char *header_in(const unsigned char *bytes, size_t len);
 
 /* ---- parts.c: what a system-dependent part such as PRIu64 stands for; NULL if it is unknown. */
@@ -248,6 +253,9 @@ enum conversion convert(const struct catalogue *catalogue, const char *msgid, st
 
 /* Return the text that answers the question, as it is in the catalogue; NULL if there is none. */
 const char *text_of(const struct catalogue *catalogue, const struct question *q);
+
+/* Return a form of an entry. */
+kob_text form_of(const struct catalogue *catalogue, size_t place, size_t form);
 
 /* Find the number of the entry with this msgid. False if there is none. */
 int find_place(const struct catalogue *catalogue, const char *msgid, size_t *place, kob_entry *entry);

@@ -1,19 +1,20 @@
-/* The catalogue of an MO file's bytes. Most are opened by libkobdzila as they are. Some of those that it refuses the C
- * library reads: in another charset, of another revision, with odd forms. Of these a file is made that
+/* The catalogue of an MO file's bytes. Most are opened by libkobdzila, which decodes single-byte charsets. Some of those
+ * that it refuses the C library reads: in other charsets, of later revisions, with odd forms. Of these a file is made that
  * libkobdzila takes, so that no catalogue is ever shown to the C library, which trusts its files. */
-#define _POSIX_C_SOURCE 200809L
+#define _GNU_SOURCE
 #include "intl.h"
 
 #include <stdlib.h>
 #include <string.h>
 
 #define LEAST_MO 48 /* the C library refuses shorter files */
+#define END_OF_CHARSET " \t\n"
 
-/* Return the header as it was in the file; NULL if there is none. */
-static const char *header_of(const kob_catalogue *held, int is_coded) {
+/* Return the header, which in a coded catalogue is as it was in the file; none if there is none. */
+static kob_text header_of(const kob_catalogue *held, int is_coded) {
     const kob_text none = { NULL, 0 };
     char key[8];
-    return kob_find(held, none, (kob_text){ key, is_coded ? code_key(key, "") : 0 }, NULL).at;
+    return kob_find(held, none, (kob_text){ key, is_coded ? code_key(key, "") : 0 }, NULL);
 }
 
 /* Take the charset from a header, as the C library finds it. False if its name is too long to be one. */
@@ -22,7 +23,7 @@ static int take_charset(struct catalogue *c, const char *header) {
     if (!charset)
         return 1;
     charset += strlen("charset=");
-    size_t len = strcspn(charset, " \t\n");
+    size_t len = strcspn(charset, END_OF_CHARSET);
     if (len > MOST_CHARSET)
         return 0;
     c->has_charset = 1;
@@ -30,15 +31,19 @@ static int take_charset(struct catalogue *c, const char *header) {
     return 1;
 }
 
+static int is_ascii_text(kob_text text) {
+    for (size_t i = 0; i < text.len; i++)
+        if ((unsigned char)text.at[i] >= 0x80)
+            return 0;
+    return 1;
+}
+
 static int are_texts_ascii(const kob_catalogue *held) {
     kob_entry entry;
     for (size_t place = 0; kob_entry_at(held, place, &entry); place++)
-        for (size_t form = 0; form < entry.forms; form++) {
-            kob_text text = kob_form_at(held, place, form);
-            for (size_t i = 0; i < text.len; i++)
-                if ((unsigned char)text.at[i] >= 0x80)
-                    return 0;
-        }
+        for (size_t form = 0; form < entry.forms; form++)
+            if (!is_ascii_text(kob_form_at(held, place, form)))
+                return 0;
     return 1;
 }
 
@@ -60,7 +65,7 @@ static enum standing open_held(const unsigned char *bytes, size_t len, int is_co
     }
     c->held = held;
     c->is_coded = is_coded;
-    if (take_charset(c, header_of(held, is_coded)) && (is_coded || are_texts_in_charset(c))) {
+    if (take_charset(c, header_of(held, is_coded).at) && (is_coded || are_texts_in_charset(c))) {
         *catalogue = c;
         return TAKEN;
     }
@@ -69,24 +74,60 @@ static enum standing open_held(const unsigned char *bytes, size_t len, int is_co
     return MISSING;
 }
 
-/* Whether libkobdzila decoded the texts of a file, and so named UTF-8 in its header: here they stay as they are. */
-static int is_decoded(const struct catalogue *c, const unsigned char *bytes, size_t len) {
-    const char *header = header_of(c->held, 0), *own = header_in(bytes, len);
-    return header && own && strcmp(header, own);
+/* ---- files that libkobdzila opens */
+
+/* Whether libkobdzila left the texts of a file as they are. */
+static int is_as_filed(const char *header, const char *own) { return !header || (own && !strcmp(header, own)); }
+
+/* Whether programs find the messages of a catalogue whose keys were decoded: they ask with the bytes of the file. */
+static int are_keys_ascii(const kob_catalogue *held) {
+    kob_entry entry;
+    for (size_t place = 0; kob_entry_at(held, place, &entry); place++)
+        if (!is_ascii_text(entry.context) || !is_ascii_text(entry.msgid))
+            return 0;
+    return 1;
 }
 
-/* Open the bytes as they are, if their texts are UTF-8. *fault is why libkobdzila refused them. */
+/* Return the decoded header with the charset of the file's own one, which is what gettext answers for the empty msgid;
+ * NULL if they differ otherwise, or memory runs out. Here the charset's name is what the C library takes for it. */
+static char *header_as_filed(kob_text decoded, const char *own) {
+    static const char charset[] = "charset=", here[] = "UTF-8";
+    const char *at = strstr(decoded.at, charset), *from = strstr(own, charset);
+    if (!at || !from || strlen(decoded.at) != decoded.len)
+        return NULL;
+    at += strlen(charset);
+    from += strlen(charset);
+    size_t before = (size_t)(at - decoded.at), name = strcspn(from, END_OF_CHARSET), len = strlen(here);
+    if (strcspn(at, END_OF_CHARSET) != len || strncmp(at, here, len) || !strncmp(from, here, len))
+        return NULL;
+    char *header = malloc(decoded.len + name + 1);
+    if (header)
+        strcpy(mempcpy(mempcpy(header, decoded.at, before), from, name), at + len);
+    return header;
+}
+
+/* Open the bytes as they are, or decoded. *fault is why libkobdzila refused them, or why they have to be read by rows. */
 static enum standing open_plain(const unsigned char *bytes, size_t len, struct catalogue **catalogue,
                                 enum kob_fault *fault) {
     enum standing standing = open_held(bytes, len, 0, catalogue, fault);
-    if (standing != TAKEN || !is_decoded(*catalogue, bytes, len))
+    if (standing != TAKEN)
         return standing;
-    kob_release((*catalogue)->held);
-    free(*catalogue);
+    struct catalogue *c = *catalogue;
+    kob_text header = header_of(c->held, 0);
+    const char *own = header_in(bytes, len);
+    if (is_as_filed(header.at, own))
+        return TAKEN;
+    c->header = own && are_keys_ascii(c->held) ? header_as_filed(header, own) : NULL;
+    if (c->header)
+        return TAKEN;
+    kob_release(c->held);
+    free(c);
     *catalogue = NULL;
     *fault = KOB_MO_CHARSET;
     return MISSING;
 }
+
+/* ---- files that are read by rows */
 
 static enum standing open_image(const struct rows *rows, int is_coded, struct catalogue **catalogue) {
     enum kob_fault fault;
@@ -109,34 +150,32 @@ static enum standing open_rows(const struct rows *rows, struct catalogue **catal
     return standing == MISSING ? open_image(rows, 1, catalogue) : standing;
 }
 
-/* Whether the C library may read a file that libkobdzila refuses like this: it reports these faults only once it knows
- * that all strings are inside the file. */
+/* Whether the C library may read a file of revision 0.0 that libkobdzila refuses like this: it reports these faults only
+ * once it knows that all strings are inside the file. */
 static int may_be_read(enum kob_fault fault) {
     return fault == KOB_NO_FAULT || fault == KOB_MO_REVISION || fault == KOB_MO_BAD_TEXT || fault == KOB_MO_FORMS ||
            fault == KOB_MO_CHARSET || fault == KOB_MO_NO_CHARACTER;
 }
 
-/* Whether a file has another revision than 0.0. libkobdzila reads such files; but the C library wants a hash table in
- * them, and reads later minor revisions, so they are always read by their rows. */
-static int is_revised(const unsigned char *bytes) {
-    static const unsigned char low[] = { 0xde, 0x12, 0x04, 0x95 }, high[] = { 0x95, 0x04, 0x12, 0xde }, none[4] = { 0 };
-    return (!memcmp(bytes, low, 4) || !memcmp(bytes, high, 4)) && memcmp(bytes + 4, none, 4);
-}
-
-enum standing opened(const unsigned char *bytes, size_t len, struct catalogue **catalogue) {
-    /* of a file that is too large, there is nothing in `bytes` */
-    if (len < LEAST_MO || len > MOST_MO)
-        return MISSING;
-    enum kob_fault fault = KOB_MO_REVISION;
-    enum standing standing = is_revised(bytes) ? MISSING : open_plain(bytes, len, catalogue, &fault);
-    if (standing != MISSING || !may_be_read(fault))
-        return standing;
+static enum standing open_by_rows(const unsigned char *bytes, size_t len, struct catalogue **catalogue) {
     struct rows rows;
     enum reading reading = read_rows(bytes, len, &rows);
     if (reading != ROWS_READ)
         return reading == NO_MEMORY ? UNREAD : MISSING;
-    standing = open_rows(&rows, catalogue);
+    enum standing standing = open_rows(&rows, catalogue);
     free(rows.at);
     free(rows.made);
     return standing;
+}
+
+/* (A file with a revision is read by rows whatever libkobdzila says: rows.c trusts no file either.) */
+enum standing opened(const unsigned char *bytes, size_t len, struct catalogue **catalogue) {
+    /* of a file that is too large, there is nothing in `bytes` */
+    if (len < LEAST_MO || len > MOST_MO || lacks_hash_table(bytes))
+        return MISSING;
+    enum kob_fault fault;
+    enum standing standing = open_plain(bytes, len, catalogue, &fault);
+    if (standing != MISSING || !(is_revised(bytes) || may_be_read(fault)))
+        return standing;
+    return open_by_rows(bytes, len, catalogue);
 }

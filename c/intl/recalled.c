@@ -142,8 +142,9 @@ static void go_outside(void) {
     is_inside = 0;
 }
 
+/* (The header may be another one than in the store: text_of.) */
 int recall(const struct question *q, const char **text) {
-    if (!mine || !go_inside())
+    if (!mine || !*q->msgid || !go_inside())
         return 0;
     int is_answered = recall_in(mine, q, text);
     go_outside();

@@ -1,7 +1,7 @@
-/* The strings of MO files that libkobdzila doesn't read: those of revision 0 whose strings aren't UTF-8, and of the
- * revisions that the GNU C library knows as well. Its major revisions are 0 and 1, each with a minor one; 0.0 is GNU gettext
- * manual, "MO Files". From minor revision 1 on there must be a hash table, which isn't used here, and strings may have
- * system-dependent parts, such as the value of PRIu64; five more words of the header locate their tables.
+/* The strings of MO files that libkobdzila refuses and the GNU C library reads: whose strings aren't UTF-8 and in no
+ * charset that libkobdzila decodes, and of later revisions. Its major revisions are 0 and 1, each with a minor one; 0.0 is
+ * GNU gettext manual, "MO Files". From minor revision 1 on there must be a hash table, which isn't used here, and strings
+ * may have system-dependent parts, such as the value of PRIu64; five more words of the header locate their tables.
  *
  * Nothing that a file says is trusted: all that is read is inside it, and strings that overlap can't make that more than
  * twice the file. */
@@ -272,7 +272,7 @@ enum reading read_rows(const unsigned char *bytes, size_t len, struct rows *rows
     uint32_t revision = in_header(&file, REVISION), system = 0;
     if (revision & 0xffff)
         system = in_header(&file, SYSTEM_STRINGS);
-    if (revision >> 16 > 1 || ((revision & 0xffff) && in_header(&file, HASH_SIZE) <= 2) || !has_tables(&file, system))
+    if (revision >> 16 > 1 || !has_tables(&file, system))
         return NO_ROWS;
     rows->at = malloc(((uint64_t)in_header(&file, STRINGS) + system + 1) * sizeof *rows->at);
     enum reading reading = rows->at ? read_all_rows(&file, system, rows) : NO_MEMORY;
@@ -282,6 +282,23 @@ enum reading read_rows(const unsigned char *bytes, size_t len, struct rows *rows
         *rows = (struct rows){ 0 };
     }
     return reading;
+}
+
+/* The first words of a file that has them: so much is known of it. */
+static struct bytes begin_of(const unsigned char *bytes) {
+    struct bytes file = { .at = bytes, .len = 4 * (HASH_SIZE + 1) };
+    file.is_swapped = in_header(&file, 0) != MAGIC;
+    return file;
+}
+
+int is_revised(const unsigned char *bytes) {
+    struct bytes file = begin_of(bytes);
+    return in_header(&file, 0) == MAGIC && in_header(&file, REVISION);
+}
+
+int lacks_hash_table(const unsigned char *bytes) {
+    struct bytes file = begin_of(bytes);
+    return is_revised(bytes) && (in_header(&file, REVISION) & 0xffff) && in_header(&file, HASH_SIZE) <= 2;
 }
 
 const char *header_in(const unsigned char *bytes, size_t len) {

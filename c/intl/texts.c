@@ -33,6 +33,8 @@ static int make_key(struct key *key, const struct catalogue *c, const char *msgi
 
 const char *text_of(const struct catalogue *c, const struct question *q) {
     const kob_text none = { NULL, 0 };
+    if (c->header && !*q->msgid)
+        return c->header;
     unsigned long long n = q->n ? *q->n : 0;
     struct key key;
     if (!make_key(&key, c, q->msgid))
@@ -40,6 +42,12 @@ const char *text_of(const struct catalogue *c, const struct question *q) {
     const char *text = kob_find(c->held, none, key.text, q->n ? &n : NULL).at;
     free(key.made);
     return text;
+}
+
+kob_text form_of(const struct catalogue *c, size_t place, size_t form) {
+    if (c->header && !place) /* (the empty msgid comes first) */
+        return (kob_text){ c->header, strlen(c->header) };
+    return kob_form_at(c->held, place, form);
 }
 
 /* Compare the first bytes of the key with a part of an entry's key, and skip them. */

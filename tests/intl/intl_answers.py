@@ -386,6 +386,50 @@ def charsets(folder: Path) -> list[Case]:
     return cases
 
 
+SINGLE_BYTE = [*(f"ISO-8859-{n}" for n in (1, 2, 3, 4, 5, 6, 7, 8, 9, 13, 14, 15, 16)), "KOI8-R", "KOI8-U", "KOI8-T", "TIS-620",
+               *(f"CP{n}" for n in (850, 866, 874, 1250, 1251, 1252, 1253, 1254, 1255, 1256, 1257, 1258)), "l2", "cyrillic"]
+
+
+def byte_texts(charset: str) -> Entries:
+    """A message for each byte from 0x80 on that is a character."""
+    found = {}
+    for byte in range(0x80, 0x100):
+        try:
+            bytes([byte]).decode(charset)
+        except UnicodeDecodeError:
+            continue
+        found[b"%02x" % byte] = bytes([byte])
+    return found
+
+
+def single_bytes(folder: Path) -> list[Case]:
+    """Each byte of the charsets that libkobdzila decodes, wanted in UTF-8, in the catalogue's charset and in another. Then
+    without a file descriptor for a module of iconv(3): a program in UTF-8 needs none."""
+    cases = []
+    for charset in SINGLE_BYTE:
+        entries, domain = byte_texts(charset), f"bytes-{charset}"
+        header = UTF8.replace(b"UTF-8", charset.encode()) + b"X-Team: " + min(entries.values()) + b"\n"
+        install(folder, "fr", domain, mo(entries | {b"file\0files": b"one\0" + max(entries.values())}, header))
+        words = ["bind", domain, str(folder)]
+        for msgid in (*entries, b"", b"file"):
+            words += ["ask", domain, msgid.decode()]
+        words += ["plural", domain, "1", "plural", domain, "2"] * 2
+        cases += [Case(["codeset", domain, codeset, *words], {"LANGUAGE": "fr"})
+                  for codeset in ("UTF-8", charset, "ISO-8859-1", "KOI8-R", "EUC-JP")]
+        cases.append(Case(words, {"LANGUAGE": "fr", "OUTPUT_CHARSET": charset}))
+        if charset not in ("CP1255", "CP1258", "TIS-620"):  # (Python's TIS-620 has bytes that iconv's hasn't)
+            byte = max(entries)
+            cases.append(Case(["bind", domain, str(folder), "ask", domain, "none", "descriptors", "3", "ask", domain,
+                               byte.decode()], {"LANGUAGE": "fr"},
+                              [f"{folder} 77", "none 77", escaped(entries[byte].decode(charset)) + " 77"]))
+    return cases
+
+
+def escaped(text: str) -> str:
+    """As ask_gettext.c prints it."""
+    return "".join(f"\\x{byte:02x}" for byte in text.encode())
+
+
 def system_charsets(folder: Path) -> list[Case]:
     """A file of minor revision 1 in Latin-1, and one in UTF-8, wanted in other codesets. Its parts are all of <inttypes.h>;
     one message has an unknown part, which no system has a value for, and one is there without parts as well."""
@@ -559,7 +603,7 @@ def main() -> None:
     folder = room / "messages"
     folder.mkdir()
     parts = (spelled_cases, odd_names, lists, domains, plurals, codesets, threads, changes, replaced_files, other_files,
-             system_strings, charsets, system_charsets, known_differences, hostile_files)
+             system_strings, charsets, single_bytes, system_charsets, known_differences, hostile_files)
     for part in parts:
         for case in part(folder):
             comparing.compare(case)

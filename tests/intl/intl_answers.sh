@@ -1,5 +1,5 @@
 #!/usr/bin/env bash
-# Asks gettext and related functions more than 6,000 questions in one program, once with libkobdzila-intl.so preloaded and
+# Asks gettext and related functions more than 30,000 questions in one program, once with libkobdzila-intl.so preloaded and
 # once with the C library alone: names of locales, lists of languages, domains, codesets, locales of threads, and files
 # of all kinds. Each answer and each errno must be the same unless docs/internals/decisions/intl/differences-from-glibc.md says that they differ.
 no_program=1

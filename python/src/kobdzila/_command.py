@@ -2,19 +2,23 @@
 from __future__ import annotations
 
 import argparse
-import fnmatch
-import importlib
 import os
 import re
 import sys
 import time
 from collections.abc import Iterable, Iterator, Sequence
-from typing import Any
 
 from . import _kobdzila
-from ._compile import Done, Ended, Job, Options, compile_all
+from ._compile import Done, Job, Options, compile_all
+from ._processes import Ended
 
-FOLDER = "LC_MESSAGES"
+TYPE_CHECKING = False
+if TYPE_CHECKING:
+    from typing import Any
+
+    Listed = os.DirEntry[str]
+
+FOLDER, END, END_OF_MO = "LC_MESSAGES", ".po", ".mo"
 WIDTH, PAUSE = 30, 0.05  # of the progress bar: its columns, and the seconds between two pictures of it
 EPILOG = """\
 examples:
@@ -36,7 +40,7 @@ def main(words: Sequence[str] | None = None) -> int:
     """Run a command and return its status: 0, 1 if a file was refused, or 2 for wrong options."""
     parser = argparse.ArgumentParser(prog="python -m kobdzila", description="Message catalogues of GNU gettext.")
     parser.add_argument("--version", action="version", version=f"kobdzila {_kobdzila.version}")
-    command = add_compile(parser.add_subparsers(dest="command", required=True, metavar="compile"))
+    command = add_compile(parser.add_subparsers(dest="command", required=True, metavar="compile", prog=parser.prog))
     asked = parser.parse_args(words)
     try:
         jobs = sorted(set(jobs_of(asked)))
@@ -44,8 +48,9 @@ def main(words: Sequence[str] | None = None) -> int:
         command.error(str(usage))
     try:
         return run(jobs, asked)
-    except Ended as ended:
-        print(f"{parser.prog}: {ended}", file=sys.stderr)
+    except Ended:
+        print(f"{parser.prog}: a process that compiled was ended from outside: if memory ran out, try --jobs 1",
+              file=sys.stderr)
         return 1
     except KeyboardInterrupt:
         return 130
@@ -115,16 +120,39 @@ def folders_of(asked: argparse.Namespace) -> Iterable[str]:
             raise Usage(f"there is no folder {asked.directory}")
         return [asked.directory]
     ignored = [pattern[:-2] if pattern.endswith("/*") else pattern for pattern in [*asked.input_file, *asked.ignore]]
-    found = {"conf/locale", "locale", *paths_of_django()}
-    for where, folders, _ in os.walk("."):
-        folders[:] = [it for it in folders if it != FOLDER and not is_ignored(where, it, ignored)]
-        found.update(os.path.join(where, it) for it in folders if it == "locale")
+    found, below = {"conf/locale", "locale", *paths_of_django()}, ["."]
+    for where in below:
+        folders = [it for it in listed(where)[0] if it.name != FOLDER and not is_ignored(where, it.name, ignored)]
+        found.update(it.path for it in folders if it.name == "locale")
+        below += (it.path for it in folders if not it.is_symlink())
     return sorted({os.path.normpath(it) for it in found if os.path.isdir(it)})
+
+
+def listed(folder: str) -> tuple[list[Listed], list[Listed]]:
+    """Return the folders in a folder, and its other entries: none if it can't be read. (os.walk takes twice the time.)"""
+    folders: list[Listed] = []
+    others: list[Listed] = []
+    try:
+        with os.scandir(folder) as entries:
+            for it in entries:
+                (folders if is_folder(it) else others).append(it)
+    except OSError:
+        pass
+    return folders, others
+
+
+def is_folder(entry: Listed) -> bool:
+    try:
+        return entry.is_dir()
+    except OSError:
+        return False
 
 
 def is_ignored(where: str, name: str, patterns: Sequence[str]) -> bool:
     if not patterns:
         return False
+    import fnmatch
+
     path = os.path.normpath(os.path.join(where, name))
     return any(fnmatch.fnmatchcase(name, it) or fnmatch.fnmatchcase(path, it) for it in patterns)
 
@@ -133,6 +161,8 @@ def paths_of_django() -> list[str]:
     """Return LOCALE_PATHS of the Django settings that the environment names."""
     if not os.environ.get("DJANGO_SETTINGS_MODULE"):
         return []
+    import importlib
+
     sys.path.insert(0, os.getcwd())
     try:
         settings: Any = getattr(importlib.import_module("django.conf"), "settings")
@@ -147,12 +177,21 @@ def jobs_in(folders: Iterable[str], asked: argparse.Namespace) -> Iterator[Job]:
         for locale in sorted(os.listdir(folder)):
             if locale in asked.exclude or locales and locale not in locales:
                 continue
-            for where, _, names in os.walk(os.path.join(folder, locale, FOLDER)):
-                for name in names:
-                    domain, end = os.path.splitext(name)
-                    if end == ".po" and (not domains or domain in domains):
-                        path = os.path.join(where, domain)
-                        yield Job(f"{path}.po", f"{path}.mo")
+            for path, domain in po_files_in(os.path.join(folder, locale, FOLDER)):
+                if not domains or domain in domains:
+                    yield Job(path, f"{path[:-len(END)]}{END_OF_MO}")
+
+
+def po_files_in(folder: str) -> Iterator[tuple[str, str]]:
+    """Yield the PO files in a folder and below, each with its name without the ending."""
+    below = [folder]
+    for where in below:
+        folders, others = listed(where)
+        below += (it.path for it in folders if not it.is_symlink())
+        for it in others:
+            domain, end = os.path.splitext(it.name)
+            if end == END:
+                yield it.path, domain
 
 
 # --- running ----------------------------------------------------------------------------------------------------------

@@ -1,16 +1,51 @@
 """Compiles PO files to MO files: one at a time, or all of a project."""
 from __future__ import annotations
 
-import contextlib
 import os
 import re
+from collections import namedtuple
 from collections.abc import Iterator, Sequence
-from functools import partial
-from typing import NamedTuple
 
 from . import _kobdzila
 from ._catalogue import Catalogue
+from ._processes import MOST_PIECES, done_by
 from ._refused import Fault, Refused
+
+TYPE_CHECKING = False  # (the module typing takes longer to import than some projects to compile)
+if TYPE_CHECKING:
+    from typing import NamedTuple
+
+    class Job(NamedTuple):
+        """A PO file, and the MO file to write."""
+
+        po: str
+        mo: str
+
+    class Options(NamedTuple):
+        """How to compile PO files."""
+
+        checked: bool = False
+        use_fuzzy: bool = False
+        statistics: bool = False
+        dry_run: bool = False
+
+    class CountFields(NamedTuple):
+        messages: int
+        translated: int
+        fuzzy: int
+
+    class DoneFields(NamedTuple):
+        job: Job
+        line: int = 0
+        fault: str = ""
+        counts: Counts | None = None
+
+    Plain = tuple[int, str, tuple[int, int, int] | None]
+else:
+    Job = namedtuple("Job", "po mo")
+    Options = namedtuple("Options", "checked use_fuzzy statistics dry_run", defaults=(False,) * 4)
+    CountFields = namedtuple("CountFields", "messages translated fuzzy")
+    DoneFields = namedtuple("DoneFields", "job line fault counts", defaults=(0, "", None))
 
 BYTE_ORDER_MARK = b"\xef\xbb\xbf"
 LEAST_JOBS, MOST_AT_ONCE = 16, 32  # files for which a process is started, and that it takes at a time
@@ -51,28 +86,10 @@ def compiled(data: _kobdzila.Buffer, checked: bool, use_fuzzy: bool) -> Catalogu
     return catalogue
 
 
-class Job(NamedTuple):
-    """A PO file, and the MO file to write."""
-
-    po: str
-    mo: str
-
-
-class Options(NamedTuple):
-    """How to compile PO files."""
-
-    checked: bool = False
-    use_fuzzy: bool = False
-    statistics: bool = False
-    dry_run: bool = False
-
-
-class Counts(NamedTuple):
+class Counts(CountFields):
     """How many messages a PO file has, not counting the header, and how many are translated and fuzzy."""
 
-    messages: int
-    translated: int
-    fuzzy: int
+    __slots__ = ()
 
     def __str__(self) -> str:
         part = self.translated * 100 // self.messages if self.messages else 0
@@ -80,46 +97,45 @@ class Counts(NamedTuple):
         return f"{self.translated} of {self.messages} messages ({part}%) translated{fuzzy}"
 
 
-class Done(NamedTuple):
+class Done(DoneFields):
     """The result of a job: `fault` says why there is no new MO file, with the line if there is one."""
 
-    job: Job
-    line: int = 0
-    fault: str = ""
-    counts: Counts | None = None
+    __slots__ = ()
 
     def __str__(self) -> str:
         return f"{self.job.po}:{self.line}: {self.fault}" if self.line else f"{self.job.po}: {self.fault}"
 
 
-class Ended(Exception):
-    """Why not all files were compiled."""
-
-
 def compile_all(jobs: Sequence[Job], options: Options, processes: int) -> Iterator[Done]:
-    """Compile PO files, each once, in up to this many processes, and yield the results in order.
+    """Compile PO files, each once, in up to this many processes, and yield the results as they come.
 
-    A few files are compiled in this process, since starting others takes longer.
+    A few files are compiled in this process, since starting others takes longer. Ended if another process is ended.
     """
-    work = partial(compile_file, options=options)
     processes = min(processes, len(jobs) // LEAST_JOBS)
     if processes < 2:
-        yield from map(work, jobs)
+        for job in jobs:
+            yield compile_file(job, options)
         return
-    import multiprocessing
-    import signal
-    from concurrent.futures.process import BrokenProcessPool, ProcessPoolExecutor
+    size = max(1, min(MOST_AT_ONCE, len(jobs) // (16 * processes)), -(-len(jobs) // MOST_PIECES))
+    pieces = [jobs[at:at + size] for at in range(0, len(jobs), size)]
 
-    forking = multiprocessing.get_context("fork")  # (this process has no other thread)
-    size = max(1, min(MOST_AT_ONCE, len(jobs) // (4 * processes)))
-    with ProcessPoolExecutor(processes, forking, signal.signal, (signal.SIGINT, signal.SIG_IGN)) as executor:
-        try:
-            yield from executor.map(work, jobs, chunksize=size)
-        except BrokenProcessPool:
-            raise Ended("a process that compiled was ended from outside: if memory ran out, try --jobs 1") from None
-        except GeneratorExit:
-            executor.shutdown(cancel_futures=True)
-            raise
+    def work(number: int) -> list[Plain]:
+        return [plain(compile_file(job, options)) for job in pieces[number]]
+
+    for number, results in done_by(processes, len(pieces), work):
+        for job, it in zip(pieces[number], results):
+            yield done_of(job, it)
+
+
+def plain(done: Done) -> Plain:
+    """Return what a job resulted in by plain tuples, which go to another process."""
+    counts = done.counts
+    return done.line, done.fault, counts and (counts.messages, counts.translated, counts.fuzzy)
+
+
+def done_of(job: Job, found: Plain) -> Done:
+    line, fault, counts = found
+    return Done(job, line, fault, counts and Counts(*counts))
 
 
 def compile_file(job: Job, options: Options) -> Done:
@@ -154,8 +170,10 @@ def replace(path: str, data: bytes) -> None:
             os.close(file)
         os.replace(new, path)
     except BaseException:
-        with contextlib.suppress(OSError):
+        try:
             os.unlink(new)
+        except OSError:
+            pass
         raise
 
 
