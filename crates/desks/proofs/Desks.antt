@@ -1,8 +1,8 @@
 -- Lists of desks, member by member.
 use Rattle.std.specs.Prelude.{IfSome}
 use Rattle.std.specs.List.{AllZip, AllByRecursion}
-use Rattle.std.proofs.Common.{◌≡◌, ◌≤◌, max, List, [], ◌∷◌, None, sym, refl, ap, ◌∙◌, subst}
-use Rattle.std.proofs.Common.{arith}
+use Rattle.std.proofs.Common.{◌≡◌, ◌≤◌, max, List, [], ◌∷◌, None, Some, sym, refl, ap, ◌∙◌, subst}
+use Rattle.std.proofs.Common.{arith, Option, inl, inr}
 use Rattle.live_versions.specs.Seen.{SeenValue}
 use Rattle.live_versions.specs.Batches.{version_of}
 use Rattle.live_loads.proofs.Joining.{begins_refl, begins_trans}
@@ -10,7 +10,7 @@ use Rattle.desks.specs.declared.desk.Desk.{Desk}
 use Rattle.desks.specs.declared.desk.ServeFault.{ServeFault}
 use Rattle.desks.specs.declared.desk.ServeFault.TheVariants as fault
 use Rattle.desks.specs.Answers.{Answered}
-use Rattle.desks.specs.Desks.{EndsAhead, KeepsDesk, IsServed}
+use Rattle.desks.specs.Desks.{AtSome, EndsAhead, KeepsDesk, IsServed}
 use Rattle.desks.specs.Working.{HasLearnt, Worked, Settled, OfWork}
 use Rattle.desks.proofs.Answers.{answered_grows, answered_less, version_grows}
 
@@ -129,9 +129,20 @@ served_all start end (d ∷ ds) (e ∷ es) [] zs l w n s = absurd w
 served_all start end [] [] [] (z ∷ zs) l w n s = absurd s
 served_all start end (d ∷ ds) (e ∷ es) (f ∷ fs) [] l w n s = absurd s
 
--- a fault of the work needs no reader that is ahead
-pub other_fault : (end : SeenValue) (desks : List Desk) (e : ServeFault) → OfWork e → EndsAhead end desks e
-other_fault end desks fault.Memory is = tt
-other_fault end desks fault.Ahead is = absurd is
-other_fault end desks fault.Join is = absurd is
-other_fault end desks fault.Closed is = tt
+-- a fault is that of the first desk, or of a later one
+pub at_first : (all : List Desk) (d : Desk) (rest : List Desk) (f : ServeFault) → all ≡ d ∷ rest → d.fault ≡ Some f
+    → AtSome (λ x. x.fault ≡ Some f) all
+at_first all d rest f is has = subst (λ (l : List Desk). AtSome (λ x. x.fault ≡ Some f) l) (sym is) (inl has)
+
+pub at_later : (all : List Desk) (d : Desk) (rest : List Desk) (r : Option ServeFault) → all ≡ d ∷ rest
+    → IfSome r (λ f. AtSome (λ x. x.fault ≡ Some f) rest) → IfSome r (λ f. AtSome (λ x. x.fault ≡ Some f) all)
+at_later all d rest None is h = tt
+at_later all d rest (Some f) is h = subst (λ (l : List Desk). AtSome (λ x. x.fault ≡ Some f) l) (sym is) (inr h)
+
+-- a fault of the work is that of a desk
+pub desk_fault : (end : SeenValue) (desks : List Desk) (e : ServeFault) → OfWork e
+    → AtSome (λ d. d.fault ≡ Some e) desks → EndsAhead end desks e
+desk_fault end desks fault.Memory is at = tt
+desk_fault end desks fault.Ahead is at = absurd is
+desk_fault end desks fault.Join is at = absurd is
+desk_fault end desks fault.Closed is at = at

@@ -1,10 +1,10 @@
 -- What a service does to its desks.
-use Rattle.std.specs.Prelude.{◌≡◌, ◌⊎◌, ◌<◌, ⊤, max, List, [], ◌∷◌, None}
+use Rattle.std.specs.Prelude.{◌≡◌, ◌⊎◌, ◌<◌, ⊤, max, List, [], ◌∷◌, Some, None}
 use Rattle.live_versions.specs.Seen.{SeenValue}
 use Rattle.live_versions.specs.Batches.{version_of, StartsWith}
 use Rattle.desks.specs.declared.desk.Desk.{Desk}
 use Rattle.desks.specs.declared.desk.ServeFault.{ServeFault}
-use Rattle.desks.specs.declared.desk.ServeFault.TheVariants.{Ahead, Join}
+use Rattle.desks.specs.declared.desk.ServeFault.TheVariants.{Ahead, Closed, Join, Memory}
 use Rattle.desks.specs.Answers.{Answered}
 
 -- it holds of at least one desk (for two lists of desks, member by member, see the library's `AllZip`)
@@ -28,8 +28,10 @@ pub record IsServed (start end : SeenValue) (desk after : Desk) : Type 0 where
   pub answered : Answered end.batches (max (version_of desk.reader.batches) (version_of start.batches))
       desk.queries.items after.answers.items
 
--- `Ahead` is returned only if a reader has seen more than is published at the end, and `Join` never
+-- why a service ends early: a reader has seen more than is published at the end, a desk has the fault that its reader
+-- found the store closed, or memory ran out; no thread is ever missing
 abbrev pub EndsAhead : SeenValue → List Desk → ServeFault → Type 0
 EndsAhead end desks Ahead = AtSome (λ desk. version_of end.batches < version_of desk.reader.batches) desks
+EndsAhead end desks Closed = AtSome (λ desk. desk.fault ≡ Some Closed) desks
 EndsAhead end desks Join = ⊥
-EndsAhead end desks _ = ⊤
+EndsAhead end desks Memory = ⊤

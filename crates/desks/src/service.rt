@@ -106,7 +106,8 @@ fn serve_slice<R: Threads + Wait + Sync, G: Gate + Sync>(
 /// the system can't start a thread, that thread's work is done in turn.
 ///
 /// After a fault don't rely on the desks' `answers` and `fault`. The store has the loads that it had, followed by the
-/// accepted loads of a prefix of the jobs, and no others; at most the last of these is pending.
+/// accepted loads of a prefix of the jobs, and no others; at most the last of these is pending. `Closed` is returned
+/// only if it is the fault of a desk.
 pub fn serve<R: Threads + Wait + Sync, G: Gate + Sync>(
     rt: &R,
     alloc: Global,

@@ -1,6 +1,6 @@
 //! What is done to all desks before and after their queries are answered.
 ghost use Rattle.std.specs.List.{AllZip, AllByRecursion};
-ghost use Rattle.std.specs.Prelude.{◌≡◌, ◌<◌, OnOk, IfErr, IfNone, IfSome, None};
+ghost use Rattle.std.specs.Prelude.{◌≡◌, ◌<◌, OnOk, IfErr, IfNone, IfSome, None, Some};
 ghost use Rattle.live_versions.specs.Batches.{version_of};
 ghost use Rattle.desks.specs.declared.desk.ServeFault.TheVariants.{Ahead};
 ghost use Rattle.desks.specs.Desks.{AtSome, KeepsDesk};
@@ -21,11 +21,13 @@ pub fn learn_all(desks: &mut [Desk], opening: &Notice)
     learn_all(rest, opening);
 }
 
+#[tactic(auto, using(crate::proofs::Desks::at_first, crate::proofs::Desks::at_later))]
 /// The fault of the first desk that has one.
 pub fn first_fault(desks: &[Desk]) -> Option<ServeFault>
     requires { AllByRecursion (λ d. IfSome d.fault OfWork) desks.now }
     ensures none { IfNone result (AllByRecursion (λ d. d.fault ≡ None) desks.now) }
     ensures fault { IfSome result OfWork }
+    ensures of_desk { IfSome result (λ fault. AtSome (λ d. d.fault ≡ Some fault) desks.now) }
 {
     let (desk, rest) = desks.split_first()?;
     match desk.fault {

@@ -3,7 +3,7 @@ use Rattle.std.specs.List.{AllZip}
 use Rattle.live_versions.specs.Seen.{SeenValue}
 use Rattle.desks.specs.Desks.{IsServed}
 use Rattle.desks.specs.Working.{HasLearnt}
-use Rattle.desks.proofs.Desks.{worked_kept, kept_then, kept_book, worked_not_ahead, served_all}
+use Rattle.desks.proofs.Desks.{worked_kept, kept_then, kept_book, worked_not_ahead, served_all, desk_fault}
 use Rattle.desks.proofs.service.serve_slice.Goals as goal
 
 pub returns-in_err-run_all-clause-kept : goal.returns-in_err-run_all-clause-kept
@@ -65,3 +65,7 @@ returns-clause-store g c =
     ∙ ap (λ p. p.seen.book) c.tell-opening.ensures.same in
     kept_book c.args.publisher.now.seen c.tell-closing.new.self.seen _ _ same c.requires.book
     (kept_then _ _ _ (worked_kept _ _ _ _ c.learn_all.ensures c.run_all.ensures.worked) c.settle_all.ensures.kept)
+
+pub returns-in-Some-clause-fault : goal.returns-in-Some-clause-fault
+returns-in-Some-clause-fault g c =
+    desk_fault c.run_all.new.publisher.seen c.run_all.new.desks _ c.in-Some.ensures.fault c.in-Some.ensures.of_desk
