@@ -116,7 +116,7 @@ const char *kob_fault_text(enum kob_fault fault);
  * copy is some mixture of old and new bytes, which is opened or refused as a whole.
  *
  * The file may be of revision 0.0, 0.1, 1.0 or 1.1. System-dependent strings have the values of <inttypes.h> on x86-64
- * Linux: `PRIu64` stands for `lu`. A message with a segment of another name is left out.
+ * and aarch64 Linux: `PRIu64` stands for `lu`. A message with a segment of another name is left out.
  *
  * If its strings aren't UTF-8, or its header names another charset, they are decoded from the charset that its header
  * names, one of the single-byte charsets that kob_open(3) lists, and the catalogue's header says `charset=UTF-8`. */
@@ -350,8 +350,8 @@ void kob_languages_find_many(const kob_languages *list, const kob_question *ques
                              kob_text *answers);
 
 /* A live store: a set of catalogues that is replaced while threads look up in it. A *load* is a catalogue for a text
- * domain and a locale. A *publish* shows all loads since the last one, in one step. A *version* is the number of loads
- * that were published so far. Readers never block, neither on a publish nor on each other, and a publish never waits
+ * domain and a locale. A *publish* shows all pending loads in one step. A *version* is the number of loads that were
+ * published so far. Readers never block, neither on a publish nor on each other, and a publish never waits
  * for readers.
  *
  * Any number of threads may use one store at once. Loads and publishes of several threads take turns by a lock, which
