@@ -1,6 +1,6 @@
-"""Compares a msgfmt-or-gnu that finds no GNU msgfmt with GNU msgfmt on formats of Python: PO files of generated pairs, and
-PO files that are installed. Status, the number of faults and the lines with them must be the same, and without a plural
-the words as well.
+"""Compares a msgfmt-or-gnu that finds no GNU msgfmt with GNU msgfmt on formats: PO files of generated pairs, of Python and of
+other languages, and PO files that are installed. Status, the number of faults and the lines with them must be the same,
+and of Python without a plural the words as well.
 
 usage: tests/driver/formats.py DRIVER GNU ROOM [--files N] [--seed N] [PO ..]
 
@@ -17,6 +17,7 @@ from concurrent.futures import ThreadPoolExecutor
 from pathlib import Path
 
 ENTRIES = 150  # of a generated file
+OTHER = "other-"  # a generated file of other languages than Python is called so
 HEADER = (
     'msgid ""\nmsgstr "Project-Id-Version: x\\nPO-Revision-Date: x\\nLast-Translator: x\\nLanguage-Team: x\\n'
     "Language: fr\\nMIME-Version: 1.0\\nContent-Type: text/plain; charset=UTF-8\\nContent-Transfer-Encoding: 8bit\\n"
@@ -29,6 +30,23 @@ BRACE = ("{a}", "{a}", "{b}", "{b}", "{0}", "{1}", "{a.b}", "{a[0]}", "{a[x].y}"
          "{{", "}", "}}", "{_x}", "{a:{{}", "{A}")  # fmt: skip
 BRACE_FAULTS = ("{", "{}", "{a", "{a!r}", "{a:s}", "{a.}", "{a.5}", "{a[}", "{a[]}", "{a[b}", "{a:{b:d}}", "{a:{}}", "{a:{b}5}",
                 "{ a}", "{a }", "{5a}", "{a:", "{a[b.c]}", "{a:5{b}}", "{!}")  # fmt: skip
+NUMBERS = ("%1", "%1", "%2", "%2", "%3", "%4", "%L1", "%L2", "%01", "%10", "%12", "%n", "%Ln", "%%", "%5", "%0", "%00", "%100")
+NUMBER_FAULTS = ("%", "%L", "%a", "%-1", "%\u00e9", "%LL1", "%L%1", "%4294967297", "%1a", "%n1", "%$1")
+NAMES = ("{a}", "{a}", "{b}", "{c}", "{a_1}", "{A}", "{_}", "$a", "$a", "$b", "${a}", "${b}", "$c", "$_", "$a_1", "${A}", "$ab")
+NAME_FAULTS = ("{", "{}", "{a", "{1}", "{a-}", "{ a}", "{{a}}", "{a{b}", "}", "$", "$$", "$1", "${", "${}", "${a", "${1}", "${a:-b}",
+               "$\u00e9", "${\u00e9}", "${a\u00e9}", "$a\u00e9", "$(a)", "${a}}", "${{a}}", "{a.b}", "$-", "$ a")  # fmt: skip
+PHP = ("%s", "%s", "%d", "%1$s", "%1$s", "%2$d", "%2$d", "%f", "%e", "%c", "%x", "%%", "%'x5d", "%-05.2f", "%ld", "%4294967297$s")
+PHP_FAULTS = ("%", "%y", "%E", "%F", "%0$s", "%5%", "%'", "%.f", "%.", "%1$d", "%2$s", "%+d", "%1$", "%\u00e9")
+# The other languages that are checked, each with directives and with faults.
+OTHERS = {
+    "kde-format": (tuple(text for text in NUMBERS if text[1] not in "Ln0") + ("%1", "%2"), NUMBER_FAULTS),
+    "qt-format": (NUMBERS, NUMBER_FAULTS),
+    "qt-plural-format": (NUMBERS, NUMBER_FAULTS),
+    "ycp-format": (("%1", "%1", "%2", "%2", "%3", "%9", "%%"), NUMBER_FAULTS),
+    "perl-brace-format": (NAMES, NAME_FAULTS),
+    "sh-format": (tuple(text for text in NAMES if text[0] == "$"), NAME_FAULTS),
+    "php-format": (PHP, PHP_FAULTS),
+}
 FAULT = re.compile(rb"^[^\n:]*:(\d+): (.*)$")
 COUNT = re.compile(rb"^[^\n]*: found (\d+) fatal errors?$")
 CUT = re.compile(rb"In the directive number \d+, '$")  # GNU msgfmt prints the NUL at the end of a text
@@ -53,11 +71,23 @@ def translation_of(rng: random.Random, original: str, pieces: tuple[str, ...], f
     return " ".join(words)
 
 
-def entry(rng: random.Random, number: int, has_plurals: bool) -> str:
-    """An entry flagged as a format of Python, or as both."""
+def chosen_python(rng: random.Random) -> tuple[str, tuple[str, ...], tuple[str, ...]]:
+    """A flag of Python's formats, or of both, with the directives of its texts and with faults."""
     flag = rng.choice(("python-format", "python-brace-format", "python-format, python-brace-format", "possible-python-format",
                        "python-format, no-python-format", "python-brace-format no-wrap"))  # fmt: skip
-    pieces, faults = (BRACE, BRACE_FAULTS) if flag.startswith("python-brace") else (PERCENT, PERCENT_FAULTS)
+    return (flag, BRACE, BRACE_FAULTS) if flag.startswith("python-brace") else (flag, PERCENT, PERCENT_FAULTS)
+
+
+def chosen_other(rng: random.Random) -> tuple[str, tuple[str, ...], tuple[str, ...]]:
+    """A flag of another language, now and then of a second one."""
+    flag = rng.choice(list(OTHERS))
+    second = f", {rng.choice(list(OTHERS))}" if rng.random() < 0.1 else ""
+    return (flag + second, *OTHERS[flag])
+
+
+def entry(rng: random.Random, number: int, has_plurals: bool, is_python: bool) -> str:
+    """An entry flagged as a format."""
+    flag, pieces, faults = chosen_python(rng) if is_python else chosen_other(rng)
     original = text_of(rng, pieces, faults)
     lines = [f"#, {flag}", f'msgctxt "{number}"', f'msgid "{original}"' if original else 'msgid "x"']
     if rng.random() < 0.3 and has_plurals:
@@ -69,9 +99,9 @@ def entry(rng: random.Random, number: int, has_plurals: bool) -> str:
     return "\n".join(lines) + "\n\n"
 
 
-def generated(seed: int, has_plurals: bool) -> bytes:
+def generated(seed: int, has_plurals: bool, is_python: bool) -> bytes:
     rng = random.Random(seed)
-    return (HEADER + "".join(entry(rng, number, has_plurals) for number in range(ENTRIES))).encode()
+    return (HEADER + "".join(entry(rng, number, has_plurals, is_python) for number in range(ENTRIES))).encode()
 
 
 def answer(program: str, option: str, path: Path, environment: dict[str, str]) -> tuple[int, bytes]:
@@ -113,7 +143,8 @@ class Comparison:
             return f"{path} {option}: status {ours} and {theirs}, {count} and {wanted_count} faults, lines {lines[:5]}", 0
         for line, words in wanted.items():
             has_plural = b"msgstr[" in words or b"msgid_plural" in words
-            if words != faults[line] and not has_plural and not CUT.search(words):
+            is_compared = not has_plural and not path.name.startswith(OTHER)
+            if words != faults[line] and is_compared and not CUT.search(words):
                 return f"{path}:{line} {option}: {faults[line]!r} and {words!r}", 0
         return "", count
 
@@ -141,11 +172,12 @@ def main() -> None:
     made: dict[str, list[Path]] = {"--check-format": [], "-c": []}
     for option, paths in made.items():
         for seed in range(arguments.seed, arguments.seed + arguments.files):
-            paths.append(arguments.room / f"{seed}{option}.po")
-            paths[-1].write_bytes(generated(seed, option == "-c"))
+            for name in ("", OTHER):
+                paths.append(arguments.room / f"{name}{seed}{option}.po")
+                paths[-1].write_bytes(generated(seed, option == "-c", not name))
     with ThreadPoolExecutor(4) as pool:
         done = [
-            report(f"driver, formats of Python, {name}, {option}",
+            report(f"driver, formats, {name}, {option}",
                    list(pool.map(lambda path: comparison.difference(path, option), those)))
             for option, paths in made.items()
             for name, those in (("generated", paths), ("installed PO files", arguments.po))

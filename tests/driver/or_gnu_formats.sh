@@ -1,7 +1,7 @@
 #!/usr/bin/env bash
-# Formats of Python in bin/msgfmt-or-gnu: it checks them by libkobdzila if formats are checked. With a fault GNU msgfmt
-# answers, and without GNU msgfmt the driver says what is wrong in its words. Worked texts; then generated pairs and the PO
-# files of Django, if they are installed (tests/driver/formats.py).
+# Formats of other languages than C in bin/msgfmt-or-gnu: it checks them by libkobdzila if formats are checked. With a
+# fault GNU msgfmt answers, and without GNU msgfmt the driver says what is wrong. Worked texts; then generated pairs and the
+# PO files of Django, if they are installed (tests/driver/formats.py).
 . "$(dirname "$0")/../lib/common"
 NAME=or_gnu_formats
 . tests/driver/begin
@@ -59,6 +59,15 @@ fault 'a brace, a further name' python-brace-format '{a}' '{a}{b}' \
   "a format specification for argument 'b' doesn't exist in 'msgid'"
 fault 'a brace, not closed' python-brace-format '{a}' '{a}{b' "$none In the directive number 1, there is an unterminated format directive."
 fault 'a brace, no name' python-brace-format '{a}' '{}' "$none In the directive number 0, '}' cannot start a field name."
+differ="format specifications in 'msgid' and 'msgstr' are not the same"
+fault 'KDE, another number' kde-format '%1 %2' '%1' "$differ"
+fault 'KDE, two numbers left out' kde-format '%1' '%3' "'msgstr' is not a valid KDE format string, unlike 'msgid'."
+fault 'Qt, no longer simple' qt-format '%1' '%L1' "$differ"
+fault 'Qt, no number' qt-plural-format '%n' 'x' "$differ"
+fault 'YCP, no digit' ycp-format '%1' '%1 %' "'msgstr' is not a valid YCP format string, unlike 'msgid'."
+fault 'Perl, a name left out' perl-brace-format '{a} {b}' '{a}' "$differ"
+fault 'the shell, another name' sh-format '$a' '${b}' "$differ"
+fault 'the shell, no name' sh-format '$a' '$a $1' "'msgstr' is not a valid Shell format string, unlike 'msgid'."
 
 # all faults, in the order of the text, with the numbers of plural forms
 {
@@ -96,6 +105,8 @@ served() {
 served 'no fault' ours python-format '%(n)d %(a)s' '%(a)s %(n)i' -c
 served 'no fault, braces' ours python-brace-format '{a} {b.c}' '{b.c} {a}' --check-format
 served 'no fault of two' ours 'python-format, python-brace-format' '%d {a}' '{a} %d' -c
+served 'no fault, KDE' ours kde-format '%1 %2' '%2 %1' -c
+served 'no fault, Perl' ours perl-brace-format '{a}' '{a} {b}' -c
 served 'fuzzy' ours 'fuzzy, python-format' '%d' '%s' -c
 served 'fuzzy and used' 'GNU\t1\tpython-format' 'fuzzy, python-format' '%d' '%s' -c -f
 served 'untranslated' ours python-format '%d' '' -c

@@ -1,18 +1,22 @@
 -- The faults of an entry, collected form by form.
-use Rattle.std.proofs.Common.{◌≡◌, ℕ, ◌+◌, Bool, true, false, List, [], ◌∷◌, ◌++◌, Option, None}
+use Rattle.std.proofs.Common.{◌≡◌, ℕ, ◌+◌, ◌<◌, ◌≤◌, Bool, true, false, List, [], ◌∷◌, ◌++◌, length, take, get_or}
+use Rattle.std.proofs.Common.{Option, None}
 use Rattle.std.proofs.Common.{refl, sym, ap, subst, ◌∙◌, append_assoc, inl, inr}
-use Rattle.std.proofs.lemmas.List.{append-nil}
+use Rattle.std.specs.List.{flat_map}
+use Rattle.std.proofs.lemmas.List.{append-nil, take_more, take_all, flat_map_more}
 use Rattle.format_flags.specs.declared.languages.Language.{Language}
 use Rattle.format_checks.specs.declared.Difference.{Difference}
 use Rattle.format_checks.specs.declared.Fault.{Fault}
 use Rattle.format_arguments.specs.declared.FormatFault.{FormatFault}
 use Rattle.format_arguments.specs.declared.FormatFault.TheVariants.{Invalid}
 use Rattle.format_arguments.specs.declared.Strictness.{Strictness}
-use Rattle.format_flags.specs.declared.languages.Language.TheVariants.{Python, PythonBrace, Php}
+use Rattle.format_flags.specs.declared.languages.Language.TheVariants.{Python, PythonBrace, Shell, Qt, QtPlural, Kde}
+use Rattle.format_flags.specs.declared.languages.Language.TheVariants.{PerlBrace, Php, Ycp}
 use Rattle.format_checks.specs.FormatLanguages.{Asked, Named, Numbered, Lists, HasFault, IsNoFormat}
 use Rattle.format_flags.specs.FormatFlags.{has}
 use Rattle.format_checks.specs.FlaggedEntries.{Entry, original, rule_for}
 use Rattle.format_checks.specs.FormatFaults.{Question, question, questions_from, questions, flagged_questions}
+use Rattle.format_checks.specs.FormatFaults.{checked, all_questions}
 use Rattle.format_checks.specs.FormatFaults.{IsDifference, HasVerdict}
 use Rattle.format_checks.specs.FormatFaults.{fault_of, list_of, AreFaults, AddsFaults}
 
@@ -48,6 +52,29 @@ pub adds_flagged : (line : ℕ) (e : Entry) (often : List Bool) (language : Lang
     → has e.flags language ≡ true → AddsFaults line (questions e often language) a b
     → AddsFaults line (flagged_questions e often language) a b
 adds_flagged line e often language a b is adds = rw is adds
+
+-- ---- language by language
+
+pub adds_language : (line : ℕ) (e : Entry) (often : List Bool) (index : ℕ) (a b c : List Fault)
+    → index < length checked → AddsFaults line (flat_map (flagged_questions e often) (take index checked)) a b
+    → AddsFaults line (flagged_questions e often (get_or checked index Python)) b c
+    → AddsFaults line (flat_map (flagged_questions e often) (take (index + 1) checked)) a c
+adds_language line e often index a b c lt so_far more =
+    let asks = flagged_questions e often in
+    let language = get_or checked index Python in
+    let cut = ap (flat_map asks) (take_more checked index Python lt) in
+    let joined = flat_map_more asks [] (take index checked) language in
+    subst (λ (qs : List Question). AddsFaults line qs a c) (joined ∙ sym cut)
+    (adds_both line (flat_map asks (take index checked)) (asks language) a b c so_far more)
+
+pub adds_all : (line : ℕ) (e : Entry) (often : List Bool) (index : ℕ) (a b : List Fault) → length checked ≤ index
+    → AddsFaults line (flat_map (flagged_questions e often) (take index checked)) a b
+    → AddsFaults line (all_questions e often) a b
+adds_all line e often index a b le so_far =
+    subst (λ (ls : List Language). AddsFaults line (flat_map (flagged_questions e often) ls) a b)
+    (take_all index checked le) so_far
+
+-- ---- an original that is no format
 
 none_from : (line : ℕ) (e : Entry) (often : List Bool) (language : Language) (form : ℕ) (forms : List (List ℕ))
     → IsNoFormat language (original e) → AreFaults line (questions_from e often language form forms) []
@@ -127,11 +154,41 @@ no_php : (text : List ℕ) → HasFault Php text Invalid → (asked : Asked) →
 no_php text none (Named asked) x = x
 no_php text none (Numbered asked) x = none asked x
 
+no_shell : (text : List ℕ) → HasFault Shell text Invalid → (asked : Asked) → Lists Shell text asked → ⊥
+no_shell text none (Named asked) x = none asked x
+no_shell text none (Numbered asked) x = x
+
+no_qt : (text : List ℕ) → HasFault Qt text Invalid → (asked : Asked) → Lists Qt text asked → ⊥
+no_qt text none (Named asked) x = x
+no_qt text none (Numbered asked) x = none asked x
+
+no_qt_plural : (text : List ℕ) → HasFault QtPlural text Invalid → (asked : Asked) → Lists QtPlural text asked → ⊥
+no_qt_plural text none (Named asked) x = x
+no_qt_plural text none (Numbered asked) x = none asked x
+
+no_kde : (text : List ℕ) → HasFault Kde text Invalid → (asked : Asked) → Lists Kde text asked → ⊥
+no_kde text none (Named asked) x = x
+no_kde text none (Numbered asked) x = none asked x
+
+no_perl_brace : (text : List ℕ) → HasFault PerlBrace text Invalid → (asked : Asked) → Lists PerlBrace text asked → ⊥
+no_perl_brace text none (Named asked) x = none asked x
+no_perl_brace text none (Numbered asked) x = x
+
+no_ycp : (text : List ℕ) → HasFault Ycp text Invalid → (asked : Asked) → Lists Ycp text asked → ⊥
+no_ycp text none (Named asked) x = x
+no_ycp text none (Numbered asked) x = none asked x
+
 pub no_format : (language : Language) (text : List ℕ) (fault : FormatFault) → fault ≡ Invalid
     → HasFault language text fault → IsNoFormat language text
 no_format Python text fault is has = no_python text (rw is at has)
 no_format PythonBrace text fault is has = no_brace text (rw is at has)
+no_format Shell text fault is has = no_shell text (rw is at has)
+no_format Qt text fault is has = no_qt text (rw is at has)
+no_format QtPlural text fault is has = no_qt_plural text (rw is at has)
+no_format Kde text fault is has = no_kde text (rw is at has)
+no_format PerlBrace text fault is has = no_perl_brace text (rw is at has)
 no_format Php text fault is has = no_php text (rw is at has)
+no_format Ycp text fault is has = no_ycp text (rw is at has)
 no_format _ text fault is has = λ asked none. none
 
 pub verdict_of : (e : Entry) (often : List Bool) (language : Language) (form : ℕ) (t text : List ℕ) (rule : Strictness)

@@ -20,13 +20,37 @@ use Rattle.php_format.specs.PhpDirectives as php
 use Rattle.php_format.specs.PhpFormat as php_format
 use Rattle.php_format.proofs.PhpDirectiveLemmas as php_lemmas
 use Rattle.format_flags.specs.declared.languages.Language.{Language}
-use Rattle.format_flags.specs.declared.languages.Language.TheVariants.{Python, PythonBrace, Php}
+use Rattle.format_flags.specs.declared.languages.Language.TheVariants.{Python, PythonBrace, Shell, Qt, QtPlural, Kde}
+use Rattle.format_flags.specs.declared.languages.Language.TheVariants.{PerlBrace, Php, Ycp}
+use Rattle.named_formats.specs.declared.Notation.{Notation as Names}
+use Rattle.named_formats.specs.declared.Notation.TheVariants as names
+use Rattle.named_formats.specs.NameDirectives as name_directives
+use Rattle.named_formats.specs.NameFormat as named_formats
+use Rattle.named_formats.proofs.NameDirectiveLemmas as name_lemmas
+use Rattle.numbered_formats.specs.declared.Notation.{Notation as Numbers}
+use Rattle.numbered_formats.specs.declared.Notation.TheVariants as numbers
+use Rattle.numbered_formats.specs.NumberDirectives as number_directives
+use Rattle.numbered_formats.specs.NumberFormat as numbered_formats
+use Rattle.numbered_formats.proofs.NumberDirectiveLemmas as number_lemmas
 use Rattle.format_checks.specs.declared.Difference.{Difference}
 use Rattle.format_checks.specs.declared.Difference.TheVariants.{Invalid, Arguments}
 use Rattle.format_checks.specs.declared.Fault.{Fault}
 use Rattle.format_checks.specs.FormatLanguages.{Asked, Named, Numbered, Lists, agree}
 use Rattle.format_checks.specs.FormatFaults.{Question, IsDifference, HasVerdict, IsAccepted, fault_of, list_of}
 use Rattle.format_checks.specs.FormatFaults.{AreFaults}
+
+one_named : (notation : Names) (text : List ℕ) (a b : List Argument) → named_formats.HasSignature notation text a
+    → named_formats.HasSignature notation text b → Named a ≡ Named b
+one_named notation text a b x y = ap (λ (asked : List Argument). Named asked)
+    (one_signature (name_directives.mark notation) (name_directives.DirectiveAt notation)
+    (name_lemmas.are_directives notation) brace.asks text a b x y)
+
+one_numbered : (notation : Numbers) (text : List ℕ) (a b : List code_numbered.Numbered)
+    → numbered_formats.HasSignature notation text a → numbered_formats.HasSignature notation text b
+    → Numbered a ≡ Numbered b
+one_numbered notation text a b x y = ap (λ (asked : List code_numbered.Numbered). Numbered asked)
+    (one_list_of percent (number_directives.DirectiveAt notation) (number_lemmas.are_directives notation) requests_of
+    (numbered_formats.fits notation) text a b x y)
 
 one_arguments : (language : Language) (text : List ℕ) (a b : Asked) → Lists language text a
     → Lists language text b → a ≡ b
@@ -42,6 +66,24 @@ one_arguments Php text (Numbered a) (Numbered b) x y = ap (λ (asked : List code
     (one_list_of percent php.DirectiveAt php_lemmas.are_directives requests_of php_format.fits text a b x y)
 one_arguments Php text (Numbered a) (Named b) x y = absurd y
 one_arguments Php text (Named a) b x y = absurd x
+one_arguments Shell text (Named a) (Named b) x y = one_named names.Shell text a b x y
+one_arguments Shell text (Named a) (Numbered b) x y = absurd y
+one_arguments Shell text (Numbered a) b x y = absurd x
+one_arguments Qt text (Numbered a) (Numbered b) x y = one_numbered numbers.Qt text a b x y
+one_arguments Qt text (Numbered a) (Named b) x y = absurd y
+one_arguments Qt text (Named a) b x y = absurd x
+one_arguments QtPlural text (Numbered a) (Numbered b) x y = one_numbered numbers.QtPlural text a b x y
+one_arguments QtPlural text (Numbered a) (Named b) x y = absurd y
+one_arguments QtPlural text (Named a) b x y = absurd x
+one_arguments Kde text (Numbered a) (Numbered b) x y = one_numbered numbers.Kde text a b x y
+one_arguments Kde text (Numbered a) (Named b) x y = absurd y
+one_arguments Kde text (Named a) b x y = absurd x
+one_arguments PerlBrace text (Named a) (Named b) x y = one_named names.PerlBrace text a b x y
+one_arguments PerlBrace text (Named a) (Numbered b) x y = absurd y
+one_arguments PerlBrace text (Numbered a) b x y = absurd x
+one_arguments Ycp text (Numbered a) (Numbered b) x y = one_numbered numbers.Ycp text a b x y
+one_arguments Ycp text (Numbered a) (Named b) x y = absurd y
+one_arguments Ycp text (Named a) b x y = absurd x
 one_arguments _ text a b x y = absurd x
 
 same_agreement : (language : Language) (rule : Strictness) (form : List ℕ) (original a b : Asked) (x y : Bool)

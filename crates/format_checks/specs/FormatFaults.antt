@@ -1,9 +1,11 @@
 -- What is wrong with the forms of an entry that is flagged as formats (GNU gettext manual, "PO Files").
 use Rattle.std.specs.Prelude.{◌≡◌, ◌⊎◌, ℕ, ◌+◌, Bool, true, false, if◌then◌else◌, List, [], ◌∷◌, ◌++◌, Option}
 use Rattle.std.specs.Prelude.{None, Some}
+use Rattle.std.specs.List.{flat_map}
 use Rattle.format_arguments.specs.declared.Strictness.{Strictness}
 use Rattle.format_flags.specs.declared.languages.Language.{Language}
-use Rattle.format_flags.specs.declared.languages.Language.TheVariants.{Python, PythonBrace, Php}
+use Rattle.format_flags.specs.declared.languages.Language.TheVariants.{Python, PythonBrace, Shell, Qt, QtPlural, Kde}
+use Rattle.format_flags.specs.declared.languages.Language.TheVariants.{PerlBrace, Php, Ycp}
 use Rattle.format_checks.specs.declared.Difference.{Difference}
 use Rattle.format_checks.specs.declared.Difference.TheVariants.{Invalid, Arguments}
 use Rattle.format_checks.specs.declared.Fault.{Fault}
@@ -43,10 +45,13 @@ questions e often language = questions_from e often language 0 e.forms
 abbrev pub flagged_questions : Entry → List Bool → Language → List Question
 flagged_questions e often language = if has e.flags language then questions e often language else []
 
+-- the languages whose formats are checked
+abbrev pub checked : List Language
+checked = Python ∷ PythonBrace ∷ Shell ∷ Qt ∷ QtPlural ∷ Kde ∷ PerlBrace ∷ Php ∷ Ycp ∷ []
+
 -- those of each language that the entry is flagged with
 abbrev pub all_questions : Entry → List Bool → List Question
-all_questions e often = flagged_questions e often Python ++ flagged_questions e often PythonBrace
-    ++ flagged_questions e often Php
+all_questions e often = flat_map (flagged_questions e often) checked
 
 -- ---- what is wrong
 

@@ -85,9 +85,21 @@ fn add_language_faults(
     Ok(())
 }
 
-/// Adds the faults of an entry: those of `python-format`, of `python-brace-format`, then of `php-format`, each in the
-/// order of the forms. `often` says which forms serve five numbers or more, as far as that is known. The only error is
-/// a failed allocation.
+/// The languages whose formats are checked, in the order of their faults.
+const CHECKED: &[Language] = &[
+    Language::Python,
+    Language::PythonBrace,
+    Language::Shell,
+    Language::Qt,
+    Language::QtPlural,
+    Language::Kde,
+    Language::PerlBrace,
+    Language::Php,
+    Language::Ycp,
+];
+
+/// Adds the faults of an entry: those of each language in turn, in the order of the forms. `often` says which forms
+/// serve five numbers or more, as far as that is known. The only error is a failed allocation.
 pub fn add_faults(
     faults: &mut Vec<Fault>,
     alloc: Global,
@@ -97,9 +109,9 @@ pub fn add_faults(
     ensures { OnOk result (spec.AddsFaults entry.entry.line (spec.all_questions (entry_view entry.entry) often.now)
         faults.old.items faults.new.items) }
 {
-    add_language_faults(faults, alloc, entry, Language::Python, often)?;
-    add_language_faults(faults, alloc, entry, Language::PythonBrace, often)?;
-    add_language_faults(faults, alloc, entry, Language::Php, often)?;
+    'languages: for language in CHECKED {
+        add_language_faults(faults, alloc, entry, *language, often)?;
+    }
     Ok(())
 }
 

@@ -6,7 +6,9 @@ ghost use Rattle.format_checks.specs.AskedViews.{asked_view};
 
 use format_arguments::{Argument, FormatFault, Strictness};
 use format_flags::Language;
+use named_formats::Notation as Names;
 use numbered_arguments::Numbered;
+use numbered_formats::Notation as Numbers;
 use std::alloc::{AllocError, Global};
 
 /// The arguments of a format, as its language has them.
@@ -26,7 +28,25 @@ fn signature(alloc: Global, language: Language, text: &[u8]) -> Result<Asked<'_>
     match language {
         Language::Python => Ok(Asked::Named(python_format::signature(alloc, text)?)),
         Language::PythonBrace => Ok(Asked::Named(python_brace_format::signature(alloc, text)?)),
+        Language::Shell => {
+            Ok(Asked::Named(named_formats::signature(alloc, Names::Shell, text)?))
+        }
+        Language::Qt => {
+            Ok(Asked::Numbered(numbered_formats::signature(alloc, Numbers::Qt, text)?))
+        }
+        Language::QtPlural => {
+            Ok(Asked::Numbered(numbered_formats::signature(alloc, Numbers::QtPlural, text)?))
+        }
+        Language::Kde => {
+            Ok(Asked::Numbered(numbered_formats::signature(alloc, Numbers::Kde, text)?))
+        }
+        Language::PerlBrace => {
+            Ok(Asked::Named(named_formats::signature(alloc, Names::PerlBrace, text)?))
+        }
         Language::Php => Ok(Asked::Numbered(php_format::signature(alloc, text)?)),
+        Language::Ycp => {
+            Ok(Asked::Numbered(numbered_formats::signature(alloc, Numbers::Ycp, text)?))
+        }
         _ => Err(FormatFault::Invalid),
     }
 }
@@ -59,7 +79,27 @@ fn named_agree<'a>(
 {
     match language {
         Language::PythonBrace => python_brace_format::agrees(alloc, original, translation, rule),
+        Language::PerlBrace => {
+            named_formats::agrees(alloc, Names::PerlBrace, original, translation, rule)
+        }
         _ => format_arguments::agrees(alloc, original, translation, rule),
+    }
+}
+
+fn numbered_agree(
+    alloc: Global,
+    language: Language,
+    original: &[Numbered],
+    translation: &[Numbered],
+    rule: Strictness,
+) -> Result<bool, AllocError>
+    ensures { IfOk result (λ agree. agree
+        ≡ spec.numbered_agree language original.now translation.now rule) }
+{
+    match language {
+        Language::Qt => numbered_formats::agrees(alloc, Numbers::Qt, original, translation, rule),
+        Language::Kde => numbered_formats::agrees(alloc, Numbers::Kde, original, translation, rule),
+        _ => numbered_arguments::agrees(alloc, original, translation, rule),
     }
 }
 
@@ -82,7 +122,7 @@ pub(crate) fn agrees<'a>(
         Asked::Numbered(original) => match translation {
             Asked::Named(_) => Ok(false),
             Asked::Numbered(translation) => {
-                numbered_arguments::agrees(alloc, original, translation, rule)
+                numbered_agree(alloc, language, original, translation, rule)
             }
         },
     }

@@ -1,6 +1,5 @@
 //! The checks of the formats of other languages than C: what is wrong with the forms of an entry that is flagged
-//! `python-format`, `python-brace-format` or `php-format` (GNU gettext manual, "Python Format Strings"; "PHP Format
-//! Strings"; "PO Files").
+//! `python-format`, for example (GNU gettext manual, "PO Files").
 #![tactic(auto)]
 
 mod entry;

@@ -8,6 +8,10 @@ mod brace;
 #[cfg(test)]
 mod checks;
 #[cfg(test)]
+mod named;
+#[cfg(test)]
+mod numbered;
+#[cfg(test)]
 mod php;
 #[cfg(test)]
 mod python;

@@ -1,0 +1,2 @@
+pub mod NameDirectives
+pub mod NameFormat

@@ -1,0 +1,2 @@
+pub mod NumberDirectiveLemmas
+pub mod IndexLemmas

@@ -1,0 +1,4 @@
+pub mod NumberDirectives
+pub mod NumberGaps
+pub mod NumberFormat
+pub mod NumberAgreement
