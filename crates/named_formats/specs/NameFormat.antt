@@ -19,8 +19,8 @@ HasSignature notation text asked = Asks (mark notation) (DirectiveAt notation) a
 abbrev pub HasFault : Notation → List ℕ → FormatFault → Type 0
 HasFault notation text fault = Fails (mark notation) (DirectiveAt notation) asks text fault
 
--- In the shell the names are the same; leniently, the translation leaves some out. In Perl the translation may add names,
--- so that it is the original which leaves some out; leniently, it may have any.
+-- In the shell the names are the same; leniently, the translation leaves some out. In Perl the translation may add
+-- names, so that it is the original which leaves some out; leniently, it may have any.
 abbrev pub agree : Notation → List Argument → List Argument → Strictness → Bool
 agree PerlBrace original translation Same = arguments.agree translation original Lenient
 agree PerlBrace original translation Lenient = true

@@ -1,4 +1,5 @@
-//! Argument lists of formats whose directives name their arguments, all of one kind: `perl-brace-format` and `sh-format`
+//! Argument lists of formats whose directives name their arguments, all of one kind: `perl-brace-format` and
+//! `sh-format`
 //! (GNU gettext manual, "Perl Format Strings", "Shell Format Strings").
 #![tactic(auto)]
 

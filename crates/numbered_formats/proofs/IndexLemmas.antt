@@ -1,5 +1,6 @@
 -- What is found in an index is found among the arguments.
-use Rattle.std.proofs.Common.{◌≡◌, ℕ, zero, suc, ◌+◌, ◌≤◌, ◌<◌, Bool, false, List, [], ◌∷◌, Option, None, Some, refl, sym, ap}
+use Rattle.std.proofs.Common.{◌≡◌, ℕ, zero, suc, ◌+◌, ◌≤◌, ◌<◌, Bool, false, List, [], ◌∷◌, Option, None, Some}
+use Rattle.std.proofs.Common.{refl, sym, ap}
 use Rattle.std.proofs.Common.{◌∙◌, subst, arith, inl, inr}
 use Rattle.std.specs.Prelude.{◌&&◌, ◌||◌, not, if◌then◌else◌, ◌==◌}
 use Rattle.std.specs.List.{list_all, find}
@@ -12,7 +13,8 @@ use Rattle.numbered_arguments.specs.NumberedIndex.{IsIndexOf, has_in}
 use Rattle.numbered_formats.specs.NumberGaps.{any, left_out, leaves_out_one, leaves_out_one_in, largest}
 use Rattle.numbered_formats.specs.NumberAgreement.{one_missing, misses_one, misses_one_in, kde_leniently, qt}
 use Rattle.format_arguments.specs.declared.Kind.TheVariants.{Any, Text}
-use Rattle.numbered_formats.specs.NumberAgreement.{kde_by, qt_by, of_kind, is_number_there, numbers_covered, numbers_in, all_in}
+use Rattle.numbered_formats.specs.NumberAgreement.{kde_by, qt_by, of_kind, is_number_there, numbers_covered}
+use Rattle.numbered_formats.specs.NumberAgreement.{numbers_in, all_in}
 
 same_in : (index : Index) (asked : List Numbered) → IsIndexOf index asked → (a : Numbered)
     → has_in index a ≡ has asked a
@@ -32,7 +34,8 @@ gaps_are index asked last is e =
     let counts = left_out_same (has_in index) (has asked) (same_in index asked is) last in
     rw (counts, e) refl
 
-pub all_in_is : (index : Index) (ones asked : List Numbered) → IsIndexOf index asked → all_in index ones ≡ covered ones asked
+pub all_in_is : (index : Index) (ones asked : List Numbered) → IsIndexOf index asked
+    → all_in index ones ≡ covered ones asked
 all_in_is index ones asked is = all_same (has_in index) (has asked) (same_in index asked is) ones
 
 pub numbers_in_is : (index : Index) (ones asked : List Numbered) → IsIndexOf index asked

@@ -13,7 +13,8 @@ use Rattle.numbered_arguments.specs.NumberedArguments.{number_of}
 use Rattle.numbered_arguments.specs.declared.Request.{Request}
 use Rattle.numbered_formats.specs.declared.Notation.{Notation}
 use Rattle.numbered_formats.specs.declared.Notation.TheVariants.{Qt, QtPlural, Kde, Ycp}
-use Rattle.numbered_formats.specs.NumberDirectives.{percent, numbered, is_first_digit, digit_value, second, places, qt, n}
+use Rattle.numbered_formats.specs.NumberDirectives.{percent, numbered, is_first_digit, digit_value, second, places}
+use Rattle.numbered_formats.specs.NumberDirectives.{qt, n}
 use Rattle.numbered_formats.specs.NumberDirectives.{qt_plural, kde, ycp, request, behind_percent, behind_plain}
 use Rattle.numbered_formats.specs.NumberDirectives.{DirectiveAt}
 

@@ -110,8 +110,8 @@ fn qt_agrees(
     Ok(qt_agree_by(original, translation, &there, &back))
 }
 
-/// Whether the arguments of a translation agree with those of its original, as strictly as `rule` asks. It takes n log n
-/// steps for n arguments. The only error is a failed allocation.
+/// Whether the arguments of a translation agree with those of its original, as strictly as `rule` asks. It takes
+/// n log n steps for n arguments. The only error is a failed allocation.
 pub fn agrees(
     alloc: Global,
     notation: Notation,

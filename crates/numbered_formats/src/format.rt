@@ -13,8 +13,8 @@ use std::alloc::Global;
 
 /// The arguments that a format asks for, in the order of the text; a number may come more than once.
 ///
-/// `Invalid` means that a directive can't be read, or that a format of KDE leaves out more than one number below another.
-/// `Memory` is returned only if an allocation fails.
+/// `Invalid` means that a directive can't be read, or that a format of KDE leaves out more than one number below
+/// another. `Memory` is returned only if an allocation fails.
 pub fn signature(
     alloc: Global,
     notation: Notation,

@@ -3,7 +3,11 @@ use named_formats::{FormatFault, Notation, Strictness, agrees, one_signature, si
 
 /// Formats by which GNU msgfmt 0.21 compiles an entry, each with how many arguments its directives ask for.
 const VALID: &[(Notation, &str, usize)] = &[
-    (Notation::PerlBrace, "{ {} {1} {1n} {n.x} {n-} { n} {n } {é} {n", 0),
+    (
+        Notation::PerlBrace,
+        "{ {} {1} {1n} {n.x} {n-} { n} {n } {é} {n",
+        0,
+    ),
     (Notation::PerlBrace, "{n} {_} {n1_} {A}", 4),
     (Notation::PerlBrace, "{{n}} {n{m} {n{m}}", 3),
     (Notation::Shell, "`n` n", 0),

@@ -114,11 +114,23 @@ fn compares_long_numbered_formats(rt: HostRuntime) -> Result<(), Fail> {
         text.push_str("%1 %2 ")?;
     }
     assert_eq!(rt;
-        accepted(&rt, Notation::Kde, text.as_str(), text.as_str(), Strictness::Lenient),
+        accepted(
+            &rt,
+            Notation::Kde,
+            text.as_str(),
+            text.as_str(),
+            Strictness::Lenient
+        ),
         Some(true)
     );
     assert_eq!(rt;
-        accepted(&rt, Notation::Kde, text.as_str(), "%3 %2 %1", Strictness::Lenient),
+        accepted(
+            &rt,
+            Notation::Kde,
+            text.as_str(),
+            "%3 %2 %1",
+            Strictness::Lenient
+        ),
         Some(false)
     );
     Ok(())
