@@ -11,7 +11,7 @@ use Rattle.format_arguments.specs.declared.FormatFault.{FormatFault}
 use Rattle.format_arguments.specs.declared.FormatFault.TheVariants.{Invalid}
 use Rattle.format_arguments.specs.declared.Strictness.{Strictness}
 use Rattle.format_flags.specs.declared.languages.Language.TheVariants.{Python, PythonBrace, Shell, Qt, QtPlural, Kde}
-use Rattle.format_flags.specs.declared.languages.Language.TheVariants.{PerlBrace, Php, Ycp}
+use Rattle.format_flags.specs.declared.languages.Language.TheVariants.{PerlBrace, Php, Ycp, ObjectiveC}
 use Rattle.format_checks.specs.FormatLanguages.{Asked, Named, Numbered, Lists, HasFault, IsNoFormat}
 use Rattle.format_flags.specs.FormatFlags.{has}
 use Rattle.format_checks.specs.FlaggedEntries.{Entry, original, rule_for}
@@ -57,12 +57,12 @@ adds_flagged line e often language a b is adds = rw is adds
 
 pub adds_language : (line : ℕ) (e : Entry) (often : List Bool) (index : ℕ) (a b c : List Fault)
     → index < length checked → AddsFaults line (flat_map (flagged_questions e often) (take index checked)) a b
-    → AddsFaults line (flagged_questions e often (get_or checked index Python)) b c
+    → AddsFaults line (flagged_questions e often (get_or checked index ObjectiveC)) b c
     → AddsFaults line (flat_map (flagged_questions e often) (take (index + 1) checked)) a c
 adds_language line e often index a b c lt so_far more =
     let asks = flagged_questions e often in
-    let language = get_or checked index Python in
-    let cut = ap (flat_map asks) (take_more checked index Python lt) in
+    let language = get_or checked index ObjectiveC in
+    let cut = ap (flat_map asks) (take_more checked index ObjectiveC lt) in
     let joined = flat_map_more asks [] (take index checked) language in
     subst (λ (qs : List Question). AddsFaults line qs a c) (joined ∙ sym cut)
     (adds_both line (flat_map asks (take index checked)) (asks language) a b c so_far more)

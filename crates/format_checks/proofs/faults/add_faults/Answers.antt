@@ -1,5 +1,3 @@
-use Rattle.std.proofs.Common.{take, length}
-use Rattle.format_flags.specs.declared.languages.Language.TheVariants.{Python}
 use Rattle.format_checks.specs.FormatViews.{entry_view}
 use Rattle.format_checks.proofs.FaultLemmas.{adds_nothing, adds_language, adds_all}
 use Rattle.format_checks.proofs.faults.add_faults.Goals as goal
