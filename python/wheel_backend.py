@@ -41,6 +41,7 @@ HERE = Path(__file__).resolve().parent
 TOP = HERE if (HERE / "PKG-INFO").is_file() else HERE.parent  # (of a source distribution, or of the repository)
 VERSION = (TOP / "VERSION").read_text(encoding="utf-8").strip()
 LEAST_GLIBC = 17  # no Linux that runs Python 3.10 has an older one than 2.17
+MUSL = "musllinux_1_2"  # (PEP 656; musl's symbols have no versions, and all of 1.2 have the same interface)
 FLAGS = ("-std=c11", "-O2", "-fPIC", "-Wall", "-Wextra", "-Werror", "-fvisibility=hidden")
 LINKED = ("-shared", "-Wl,--exclude-libs,ALL", "-Wl,-z,text", "-Wl,-z,relro", "-Wl,-z,now", "-Wl,--build-id=none")
 OF_PACKAGE = (".py", ".pyi", ".typed")  # the endings of its files
@@ -134,11 +135,18 @@ def compile_extension(to: Path, *more: str) -> None:
         *map(str, sorted((HERE / "src").glob("*.c"))), str(archive), *LINKED, "-o", str(to))
 
 
+def system_of(extension: Path) -> str:
+    """Return the system that the extension is for, by the C library that it needs."""
+    said = run(f"{of_machine('prefix')}objdump", "-p", "-T", str(extension))
+    if re.search(r"NEEDED +libc\.so$", said, re.MULTILINE):
+        return MUSL
+    glibc = max([LEAST_GLIBC, *map(int, re.findall(r"\(GLIBC_2\.(\d+)", said))])
+    return f"manylinux_2_{glibc}"
+
+
 def tag_of(extension: Path) -> str:
-    """Return the wheel's tag, with the version of the C library that the extension needs."""
-    needed = re.findall(r"\(GLIBC_2\.(\d+)", run(f"{of_machine('prefix')}objdump", "-T", str(extension)))
-    glibc = max([LEAST_GLIBC, *map(int, needed)])
-    return f"cp310-abi3-manylinux_2_{glibc}_{of_machine('machine')}"
+    """Return the wheel's tag."""
+    return f"cp310-abi3-{system_of(extension)}_{of_machine('machine')}"
 
 
 def manual_page() -> str:

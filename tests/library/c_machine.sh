@@ -43,7 +43,7 @@ else
   skipped "$name, AddressSanitizer" 'the compiler has none'
 fi
 read -r -a rt <<< "${RT:-rt}"
-if [ "$(uname -m)" = x86_64 ] && command -v "${rt[0]}" > /dev/null; then
+if [ "$(tools/machine machine)" = x86_64 ] && command -v "${rt[0]}" > /dev/null; then
   kit=$(dirname "$("${rt[@]}" doc)")
   if linked toolchain "$kit/c/liblibc_c.a" "$kit/c/libos_c.a"; then is_right toolchain; fi
 else

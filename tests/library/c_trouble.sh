@@ -62,9 +62,9 @@ fi
 
 # a compiler that writes down what it is called with
 name='the flags of the C library'
-mkdir -p "$room/tree/crates/kobdzila_c/out"
+mkdir -p "$room/tree"
 cp -r c include tools crates.txt "$room/tree"
-cp crates/kobdzila_c/out/libkobdzila_c.a "$room/tree/crates/kobdzila_c/out"
+cp --parents "$(tools/machine core)" "$room/tree"
 printf '#!/bin/sh\necho "$*" >> "%s/calls"\nexec cc "$@"\n' "$room" > "$room/noted"
 chmod +x "$room/noted"
 

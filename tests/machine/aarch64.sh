@@ -1,8 +1,9 @@
 #!/usr/bin/env bash
 # What was built for aarch64 (`make MACHINE=aarch64`, which leaves it in build/aarch64), by an emulator of the first
-# processor that has this machine's instructions: the scripts about msgfmt, catserve and catsession; the C library with
-# threads, as a static and as a shared library; libkobdzila-intl.so beside the C library's gettext; msgfmt-or-gnu and
-# kob-compile. The orders of the proved part's atomic steps and the hardening are read from the files.
+# processor that has its instructions: the scripts about msgfmt, catserve and catsession; the C library with threads, as a
+# static and as a shared library; libkobdzila-intl.so beside the C library's gettext; msgfmt-or-gnu, kob-compile and
+# kob-msgunfmt. The orders of the proved part's atomic steps and the hardening are read from the files. SCRIPTS=all runs
+# all scripts about these, which takes long.
 #
 # The emulator keeps the order of this machine's own memory, which is stronger than that of aarch64: a step that lacks its
 # order would not show when it runs, and so it is looked for in the instructions.
@@ -15,7 +16,7 @@ top=$PWD
 # has_all: all is built, of these sources; else it is skipped
 has_all() {
   local it newer
-  for it in "$bin"/{msgfmt,catserve,catsession,msgfmt-or-gnu,kob-compile} "$build"/static/{msgfmt,catserve,catsession} \
+  for it in "$bin"/{msgfmt,catserve,catsession,msgfmt-or-gnu,kob-compile,kob-msgunfmt} "$build"/static/{msgfmt,catserve,catsession} \
     "$build"/lib/{libkobdzila.a,libkobdzila.so.0,libkobdzila-intl.so} "$build"/proved/libkobdzila_c.a; do
     [ -f "$it" ] || { skipped aarch64 "there is no $it: make MACHINE=aarch64 builds it"; return 1; }
   done
@@ -33,20 +34,13 @@ if ! tests/lib/needs "${cc%% *}" gcc-aarch64-linux-gnu libc6-dev-arm64-cross || 
   skipped aarch64 "no ${cc%% *} with binutils, and it could not be installed"
   exit 0
 fi
-if ! qemu=$(command -v qemu-aarch64-static || command -v qemu-aarch64); then
-  if ! tests/lib/needs qemu-aarch64-static qemu-user-static; then
-    skipped aarch64 'no qemu-aarch64, and it could not be installed'
-    exit 0
-  fi
-  qemu=qemu-aarch64-static
+if ! said=$(tests/lib/emulated --check); then
+  skipped aarch64 "$said"
+  exit 0
 fi
 # (where the C library of that machine lies, for the programs that aren't static)
 libraries=$(dirname "$(dirname "$("$cc" -print-file-name=libc.so.6)")")
-emulator=("$qemu" -cpu cortex-a53 -L "$libraries")
-
-# emulated NAME FILE: makes a program $room/NAME that runs the file by the emulator
-emulated() { script "$1" "exec ${emulated_by[*]} '$top/$2' \"\$@\""; }
-emulated_by=("${emulator[@]}")
+emulator=(qemu-aarch64-static -cpu cortex-a53 -L "$libraries")
 
 # runs NAME WORD..: the words end well within five minutes, in $room, and say nothing
 runs() {
@@ -68,44 +62,37 @@ compiles() {
   return 1
 }
 
-# lines_of NAME SCRIPT: the lines of another script, which runs what is emulated
-lines_of() { EMULATED=1 "tests/$2.sh" 2>&1 < /dev/null | sed -E "s/^(ok|FAILED|skipped) /\1 aarch64, $1/"; }
+# lines_of SCRIPT..: the lines of other scripts, over what was built for aarch64
+lines_of() {
+  local it
+  for it in "$@"; do
+    tests/lib/emulated --built "tests/$it.sh" 2>&1 < /dev/null |
+      sed -E 's/^(ok|FAILED|skipped) /\1 aarch64, /; s/: no (valgrind|strace)[ ,].*/: \1 sees the emulator, and not what it runs/'
+  done
+}
 
-# --- the programs -------------------------------------------------------------------------------------------------
+# --- the scripts --------------------------------------------------------------------------------------------------------
 
-for it in msgfmt catserve catsession; do emulated "$it" "$build/static/$it" && emulated "dynamic_$it" "$bin/$it"; done
-export MSGFMT=$room/msgfmt CATSERVE=$room/catserve SESSION=$room/catsession
-lines_of '' msgfmt/rows
-lines_of '' scripts/stored
-lines_of '' scripts/scripts
-lines_of '' scripts/session
-unset MSGFMT CATSERVE SESSION
+quick=(msgfmt/{rows,static} scripts/{stored,scripts,session} driver/or_gnu unfmt/unfmt)
+more=(msgfmt/{answers,command_lines,plain,replace,refused_programs,texts,gnu} scripts/{languages,serve,store}
+  driver/or_gnu_{charsets,formats,linked,log,texts} compile/compile intl/intl_{answers,chains,secure,threads}
+  library/c_{library,machine,sequences,server,store,trouble} mo/{mutated,revisions})
+lines_of "${quick[@]}"
+[ "${SCRIPTS:-}" != all ] || lines_of "${more[@]}"
 
 # wrote NAME MO WANTED WORD..: the words end well, say nothing, and the file MO has the bytes of WANTED
 wrote() {
-  if said=$(timeout 60 "${@:4}" 2>&1) && [ -z "$said" ] && cmp -s "$2" "$3"; then ok "aarch64, $1"
+  if said=$(timeout 60 "${emulator[@]}" "${@:4}" 2>&1) && [ -z "$said" ] && cmp -s "$2" "$3"; then ok "aarch64, $1"
   else failed "aarch64, $1" "$said"; fi
 }
-for it in msgfmt-or-gnu kob-compile; do emulated "$it" "$bin/$it"; done
 if tests/lib/needs tools/gnu-msgfmt gettext; then
-  GNU_MSGFMT=$(tools/gnu-msgfmt)
-  export MSGFMT_OR_GNU_LOG=$room/log
   mkdir "$room/project"
-  for it in fr pl; do cp "examples/$it.po" "$room/project" && "$GNU_MSGFMT" --no-hash -o "$room/$it.wanted" "examples/$it.po"; done
-  printf 'msgid ""\nmsgstr "Content-Type: text/plain; charset=EUC-JP\\n"\n\nmsgid "hi"\nmsgstr "\244\242"\n' > "$room/japanese.po"
-  "$GNU_MSGFMT" -o "$room/japanese.wanted" "$room/japanese.po" 2> "$room/err"
-  wrote 'msgfmt, which is not static' "$room/mo" "$room/pl.wanted" "$room/dynamic_msgfmt" -c -o "$room/mo" examples/pl.po
-  wrote 'msgfmt-or-gnu calls the msgfmt in it' "$room/mo" "$room/fr.wanted" \
-    env GNU_MSGFMT=/none "$room/msgfmt-or-gnu" -c -o "$room/mo" examples/fr.po
-  wrote "msgfmt-or-gnu runs GNU's" "$room/mo" "$room/japanese.wanted" \
-    env GNU_MSGFMT="$GNU_MSGFMT" "$room/msgfmt-or-gnu" -o "$room/mo" "$room/japanese.po"
-  logged=$(cut -f 1 "$room/log" | tr '\n' ' ')
-  if [ "$logged" = 'ours GNU ' ]; then ok 'aarch64, the log of msgfmt-or-gnu'; else failed 'aarch64, the log of msgfmt-or-gnu' "$logged"; fi
+  for it in fr pl; do cp "examples/$it.po" "$room/project" && "$(tools/gnu-msgfmt)" --no-hash -o "$room/$it.wanted" "examples/$it.po"; done
   for it in fr pl; do
-    wrote "kob-compile, $it" "$room/project/$it.mo" "$room/$it.wanted" "$room/kob-compile" -q --no-gnu --force "$room/project"
+    wrote "kob-compile, $it" "$room/project/$it.mo" "$room/$it.wanted" "$bin/kob-compile" -q --no-gnu --force "$room/project"
   done
 else
-  skipped 'aarch64, msgfmt-or-gnu and kob-compile' 'no GNU gettext, and it could not be installed'
+  skipped 'aarch64, kob-compile' 'no GNU gettext, and it could not be installed'
 fi
 
 # --- the C library ------------------------------------------------------------------------------------------------
@@ -137,7 +124,7 @@ else failed 'aarch64, the C interface' "$said"; fi
 
 # a program that was compiled for the C library's gettext answers the same by libkobdzila-intl.so
 mkdir -p "$room/locale/fr/LC_MESSAGES"
-"$room/msgfmt" -o "$room/locale/fr/LC_MESSAGES/garden.mo" examples/fr.po
+"${emulator[@]}" "$build/static/msgfmt" -o "$room/locale/fr/LC_MESSAGES/garden.mo" examples/fr.po
 words=(env LANGUAGE fr locale C.UTF-8 bind garden "$room/locale" domain garden ask - Winter ask garden Summer plural garden 1
   plural garden 5 ask none Winter ask - 'not there')
 if compiles ask tests/intl/ask_gettext.c; then

@@ -63,7 +63,11 @@ fi
 # tar. (Its files get another owner, so none may be a link to one here.)
 copied() {
   git clone -q -n --no-hardlinks . "$1"
-  { git ls-files -z; find bin build/static build/lib ! -type d -print0; } | tar --null -T - -cf - | tar -C "$1" "${@:2}" -xf -
+  {
+    git ls-files -z
+    find bin build/static build/lib ! -type d -print0
+    [ ! -f "$(tools/machine core)" ] || printf '%s\0' "$(tools/machine core)"
+  } | tar --null -T - -cf - | tar -C "$1" "${@:2}" -xf -
   git -C "$1" add -A
 }
 

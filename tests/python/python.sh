@@ -105,6 +105,38 @@ else
   failed 'the Python package, RECORD and what the extension needs' "$said"
 fi
 
+# --- the wheel for musl, as Alpine has it: of its extension's names each is Python's or musl's
+
+name='the Python package, the wheel for musl'
+names() { nm -D "$1" "$2" | awk '{ print $NF }' | sort -u; }
+if ! tests/lib/needs musl-gcc musl-tools; then
+  skipped "$name" 'no musl-gcc, and it could not be installed'
+elif [ ! -f "$(tools/machine core)" ]; then
+  skipped "$name" "there is no $(tools/machine core), which make and the gate leave"
+elif ! said=$(tools/wheel --musl "$room/musl" 2>&1); then
+  failed "$name" "$(head -c 300 <<< "$said")"
+else
+  (cp -R c crates.txt "$room/copy" && cp --parents "$(tools/machine core)" "$room/copy" &&
+    SOURCE_DATE_EPOCH=$epoch "$room/copy/tools/wheel" --musl "$room/musl_again") > "$room/log" 2>&1
+  if cmp -s "$room"/musl/*.whl "$room"/musl_again/*.whl; then
+    ok "$name: of another folder it has the same bytes"
+  else
+    failed "$name: of another folder it has the same bytes" "$(tail -n 2 "$room/log")"
+  fi
+  "$first" -m zipfile -e "$room"/musl/*.whl "$room/musl/unpacked"
+  it=$room/musl/unpacked/kobdzila/_kobdzila.abi3.so
+  needed=$(readelf -d "$it" | sed -n 's/.*NEEDED.*\[\(.*\)\]/\1/p')
+  missing=$(comm -23 <(names -u "$it") <(names --defined-only "/lib/ld-musl-$(uname -m).so.1") |
+    grep -vE '^_?Py|^_ITM_|^__gmon_start__$')
+  if [ "$needed" != libc.so ] || [ -n "$missing" ]; then
+    failed "$name" "it needs $needed; musl lacks $(head -n 5 <<< "$missing" | tr '\n' ' ')"
+  elif [[ $said != *-musllinux_1_2_* ]]; then
+    failed "$name" "its name: $said"
+  else
+    ok "$name: each name that its extension needs is musl's or Python's"
+  fi
+fi
+
 # --- the source distribution
 
 name='the Python package, its source distribution'
