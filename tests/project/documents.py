@@ -24,6 +24,7 @@ LOOK_UPS = "docs/reference/look-ups.md"
 COMMAND = "docs/reference/msgfmt.md"
 SCRIPT_PAGE = "docs/reference/scripts.md"
 ARCHITECTURE = "docs/internals/architecture.md"
+CRATES = "docs/internals/crates/*.md"
 MSGFMT_PAGE = "docs/man/msgfmt.1"
 CATSERVE_PAGE = "docs/man/catserve.1"
 SESSION_PAGE = "docs/man/catsession.1"
@@ -504,12 +505,12 @@ MOST_COLUMNS = 120
 
 def pages_are_compact():
     """README has at most 110 lines, a page 250 unless it is a reference, and no line but a table's 120 columns"""
-    by_crate = (TOP / ARCHITECTURE, TOP / "docs/internals/proofs.md", TOP / "docs/internals/statement.md")
+    quoted = TOP / "docs/internals/statement.md"  # (its definitions are the sources')
     count = len(read("README.md").splitlines())
     wrong = [f"README.md: {count} lines"] if count > MOST_LINES_OF_README else []
-    for path in sorted(TOP.glob("docs/*/*.md")):
+    for path in sorted([*TOP.glob("docs/*/*.md"), *TOP.glob(CRATES)]):
         count = len(path.read_text(encoding="utf-8").splitlines())
-        if path.parent.name != "reference" and count > MOST_LINES_OF_A_PAGE and path not in by_crate:
+        if path.parent.name != "reference" and count > MOST_LINES_OF_A_PAGE and path != quoted:
             wrong.append(f"{path.relative_to(TOP)}: {count} lines")
     for path in pages():
         for number, line in enumerate(path.read_text(encoding="utf-8").splitlines(), 1):
@@ -586,8 +587,9 @@ def crates_are_listed():
 
 
 def definitions_are_listed():
-    """each file of definitions is named in the map of the code, and the private ones as private"""
-    parts = re.findall(r"^## (.+?)\n(.*?)(?=^## |\Z)", read(ARCHITECTURE), re.M | re.S)
+    """each file of definitions is named on the page of its layer, and the private ones as private"""
+    text = "\n".join(path.read_text(encoding="utf-8") for path in sorted(TOP.glob(CRATES)))
+    parts = re.findall(r"^## (.+?)\n(.*?)(?=^#{1,2} |\Z)", text, re.M | re.S)
     wrong = []
     for path in sorted(TOP.glob("crates/*/specs/*.antt")):
         crate, name = path.parts[-3], path.stem
