@@ -5,7 +5,7 @@ use std::test::Fail;
 /// Formats by which GNU msgfmt 0.21 compiles an entry, each with how many arguments its directives ask for.
 const VALID: &[(Notation, &str, usize)] = &[
     (Notation::Kde, "100 % %% %0 %L1 %", 0),
-    (Notation::Kde, "%1 %12%", 2),
+    (Notation::Kde, "%1 %2%", 2),
     (Notation::Kde, "%2", 1),
     (Notation::Kde, "%1 %3", 2),
     (Notation::Kde, "%5 %2 %3 %1", 4),
@@ -22,6 +22,7 @@ const VALID: &[(Notation, &str, usize)] = &[
 const INVALID: &[(Notation, &str)] = &[
     (Notation::Kde, "%3"),
     (Notation::Kde, "%4 %2"),
+    (Notation::Kde, "%1 %12%"),
     (Notation::Kde, "%1 %3 %5"),
     (Notation::Kde, "%4294967296 %3"),
     (Notation::Kde, "%4294967295"),
