@@ -88,7 +88,7 @@ completes() {
 # manual NAME: each function of the header has a page, or leads to that of its group
 manual() {
   local at=$room/image$room/usr/share/man/man3 it page wrong=''
-  for it in $(grep -oE '\bkob_[a-z_]+\(' include/kobdzila.h | tr -d '(' | sort -u); do
+  for it in $(sed 's/kob_[a-z_]*(3)//g' include/kobdzila.h | grep -oE '\bkob_[a-z_]+\(' | tr -d '(' | sort -u); do
     page=$at/$it.3
     grep -q '^\.so ' "$page" && page=$room/image$room/usr/share/man/$(sed -n 's/^\.so //p' "$page")
     sed -n '/^\.SH SYNOPSIS/,/^\.SH DESCRIPTION/p' "$page" | grep -q "[ *]$it(" || wrong+="$it "
