@@ -3,7 +3,8 @@ ghost use Rattle.std.specs.Prelude.{◌≡◌, ◌⊎◌, ◌++◌, length, IfOk
 ghost use Rattle.po_text.specs.Lawful.{IsLawfulTexts};
 ghost use Rattle.mo_image.specs.Entry.{translation};
 ghost use Rattle.catalogue.specs.Meaning as Meaning;
-ghost use Rattle.po_checks.specs.Kept.{message_of};
+ghost use Rattle.po_checks.specs.Found.{LooksAt};
+ghost use Rattle.po_checks.specs.Kept.{is_kept, message_of};
 ghost use Rattle.catalogue.specs.Meaning.{Refuses};
 ghost use Rattle.catalogue.specs.Drafts as Drafts;
 ghost use Rattle.catalogue.specs.Drafts.{outline_of, texts_if_kept};
@@ -15,22 +16,37 @@ ghost use Rattle.po_checks.specs.Refusal.{out_of_memory};
 use crate::body::{Share, Standing};
 use crate::spans::Span;
 use mo_image::{push_form, push_key};
-use po_checks::{Findings, LoadFault, Options, is_header, is_kept, is_untranslated};
+use po_checks::{Findings, LoadFault, Options, is_header, is_untranslated};
 use po_text::{EntryBuffer, open_text};
 use std::alloc::{AllocError, Global};
 
 /// Says how an entry counts in the statistics.
 fn standing_of(entry: &EntryBuffer) -> Standing
-    ensures { result ≡ Drafts.standing_of entry.now }
+    ensures is { result ≡ Drafts.standing_of entry.now }
+    ensures lawful { IsLawfulTexts entry.now }
 {
+    let is_untranslated = is_untranslated(entry);
     if is_header(entry) {
         Standing::Header
-    } else if is_untranslated(entry) {
+    } else if is_untranslated {
         Standing::Untranslated
     } else if entry.is_fuzzy() {
         Standing::Fuzzy
     } else {
         Standing::Translated
+    }
+}
+
+/// Whether an entry that counts like this is kept.
+fn is_kept_as(standing: Standing, entry: &EntryBuffer, options: Options) -> bool
+    requires { standing ≡ Drafts.standing_of entry.now }
+    ensures { result ≡ is_kept options entry.now }
+{
+    match standing {
+        Standing::Header => !is_untranslated(entry),
+        Standing::Untranslated => false,
+        Standing::Fuzzy => options.use_fuzzy,
+        Standing::Translated => true,
     }
 }
 
@@ -79,20 +95,21 @@ fn add_kept(texts: &mut String, entry: &EntryBuffer) -> Result<Option<usize>, Al
     Ok(plural)
 }
 
-/// Appends what a catalogue keeps of an entry besides its key, if the entry is kept at all. Returns what this is, and
-/// the length of the plural.
+/// Appends what a catalogue keeps of an entry that counts like this, besides its key, if the entry is kept at all.
+/// Returns what this is, and the length of the plural.
 fn add_if_kept(
     texts: &mut String,
     entry: &EntryBuffer,
     options: Options,
+    standing: Standing,
 ) -> Result<(Share, usize), AllocError>
-    ensures lawful { IsLawfulTexts entry.now }
+    requires { standing ≡ Drafts.standing_of entry.now }
     ensures added { OnOk result (string_bytes texts.new ≡ string_bytes texts.old
         ++ bytes_if_kept (texts_if_kept options entry.now)) }
     ensures share { IfOk result (λ kept. kept.0 ≡ share_of (texts_if_kept options entry.now)) }
     ensures plural { IfOk result (λ kept. kept.1 ≡ length (plural_if_kept (texts_if_kept options entry.now))) }
 {
-    if !is_kept(entry, options) {
+    if !is_kept_as(standing, entry, options) {
         return Ok((Share::Dropped, 0));
     }
     match add_kept(texts, entry)? {
@@ -108,17 +125,32 @@ fn add_entry(texts: &mut String, entry: &EntryBuffer, options: Options) -> Resul
         ++ stored (outline_of options 0 entry.now)) }
     ensures span { IfOk result (λ span. span ≡ span_of (outline_of options 0 entry.now)) }
 {
+    let standing = standing_of(entry);
     let key = add_key(texts, entry)?;
     let start = texts.len();
-    let (share, plural) = add_if_kept(texts, entry, options)?;
+    let (share, plural) = add_if_kept(texts, entry, options, standing)?;
     Ok(Span {
         key,
         kept: texts.len() - start,
         plural,
         line: entry.line(),
         share,
-        standing: standing_of(entry),
+        standing,
     })
+}
+
+/// Checks one more entry, of which this is kept.
+fn look_at(
+    findings: &mut Findings,
+    alloc: Global,
+    entry: &EntryBuffer,
+    options: Options,
+    share: Share,
+) -> Result<(), AllocError>
+    requires { share ≡ share_of (texts_if_kept options entry.now) }
+    ensures { OnOk result (LooksAt options entry.now findings.old findings.new) }
+{
+    findings.look_at_if(share != Share::Dropped, alloc, entry, options)
 }
 
 /// What was read of a PO text.
@@ -143,8 +175,9 @@ pub(crate) fn collect(alloc: Global, text: &[u8], options: Options) -> Result<Co
     let mut spans = Vec::new(alloc);
     let mut findings = Findings::new();
     'entries: while reader.next_entry(&mut entry)? {
-        spans.push(add_entry(&mut texts, &entry, options)?)?;
-        findings.look_at(alloc, &entry, options)?;
+        let span = add_entry(&mut texts, &entry, options)?;
+        look_at(&mut findings, alloc, &entry, options, span.share)?;
+        spans.push(span)?;
     }
     Ok(Collected {
         texts,

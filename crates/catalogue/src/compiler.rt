@@ -11,7 +11,9 @@ ghost use Rattle.po_checks.specs.Refusal.{out_of_memory};
 use crate::Catalogue;
 use crate::body::Standing;
 use crate::collect::{Collected, collect};
-use crate::drafts::{Draft, KeptDrafts, count, first_repeat, header_line, header_text, keep, sort};
+use crate::drafts::{
+    Draft, KeptDrafts, counts_as, first_repeat, header_line, header_text, keep, sort,
+};
 use crate::spans::{Span, lend};
 use mo_image::{HEADER_LEN, ROW_LEN};
 use po_checks::{LoadFault, LoadKind, Options};
@@ -49,11 +51,17 @@ fn stats_of(drafts: &[Draft<'_>]) -> Stats
     ensures untranslated { result.untranslated
         ≡ count_by (λ d. counts_as Standing.Untranslated (outline d)) drafts.now }
 {
-    Stats {
-        translated: count(drafts, Standing::Translated) as u32,
-        fuzzy: count(drafts, Standing::Fuzzy) as u32,
-        untranslated: count(drafts, Standing::Untranslated) as u32,
+    let mut stats = Stats {
+        translated: 0,
+        fuzzy: 0,
+        untranslated: 0,
+    };
+    'drafts: for draft in drafts {
+        stats.translated += u32::from(counts_as(draft, Standing::Translated));
+        stats.fuzzy += u32::from(counts_as(draft, Standing::Fuzzy));
+        stats.untranslated += u32::from(counts_as(draft, Standing::Untranslated));
     }
+    stats
 }
 
 /// Whether the header names an accepted charset or none, or there is no header.

@@ -1,6 +1,6 @@
 //! The entries of a PO text on their way into a catalogue: sorted, checked for duplicates, and filtered.
 ghost use Rattle.std.specs.Prelude.{◌≡◌, ◌<◌, ◌+◌, ◌^◌, ℕ, length, IfOk, option_map};
-ghost use Rattle.std.specs.List.{count_by, filter_map, find};
+ghost use Rattle.std.specs.List.{filter_map, find};
 ghost use Rattle.std.specs.Option.{option_map_or};
 ghost use Rattle.std.specs.List.Sorted.{IsPermutation, IsSortedBy};
 ghost use Rattle.catalogue.specs.Drafts.{comes_before, drafts_entries, header_text_in, kept_entry, outline};
@@ -28,20 +28,11 @@ pub(crate) struct Draft<'a> {
 // A larger draft makes the compiler slower.
 const _: () = prove!(size_of::<Draft<'_>>() == 64);
 
-fn counts_as(draft: &Draft<'_>, standing: Standing) -> bool
+/// Whether a draft has this standing.
+pub(crate) fn counts_as(draft: &Draft<'_>, standing: Standing) -> bool
     ensures { result ≡ Drafts.counts_as standing (outline draft.now) }
 {
     draft.body.standing() == standing
-}
-
-/// Counts the drafts of this standing.
-pub(crate) fn count(drafts: &[Draft<'_>], standing: Standing) -> usize
-    ensures { result ≡ count_by (λ d. Drafts.counts_as standing (outline d)) drafts.now }
-{
-    drafts
-        .iter()
-        .filter(|draft| counts_as(draft, standing))
-        .count()
 }
 
 fn is_kept_header(draft: &Draft<'_>) -> bool

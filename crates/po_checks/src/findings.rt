@@ -92,7 +92,22 @@ impl Findings {
         // Only formats allocate memory.
         ensures no_memory { IfErr result (λ _. IsTrue (Kept.is_kept options entry.now && entry.now.c_format)) }
     {
-        if !is_kept(entry, options) {
+        self.look_at_if(is_kept(entry, options), alloc, entry, options)
+    }
+
+    /// Checks one more entry as `look_at` does, where it is known whether the entry is kept.
+    pub fn look_at_if(
+        &mut self,
+        is_kept: bool,
+        alloc: Global,
+        entry: &EntryBuffer,
+        options: Options,
+    ) -> Result<(), AllocError>
+        requires { is_kept ≡ Kept.is_kept options entry.now }
+        ensures ok { OnOk result (LooksAt options entry.now self.old self.new) }
+        ensures no_memory { IfErr result (λ _. IsTrue (is_kept && entry.now.c_format)) }
+    {
+        if !is_kept {
             return Ok(());
         }
         self.look_at_formats(alloc, entry)?;

@@ -36,10 +36,10 @@ entries-init c = collects_none _ _ _ _ _ _ c.in_ok-reader.ensures.read c.new-tex
 pub entries-preserved : goal.entries-preserved
 entries-preserved c =
     let inv = c.entries.invariant in
-    collects_more c.args.text.now c.args.options _ _ _ _ c.entries.spans.items _ c.entries.findings c.look_at.new.self _
-    c.next_entry.new.into inv (rw c.if-branch.true at (c.in_ok-next_entry.ensures.read (body c.args.text.now)
-    inv.entries inv.read)) c.in_ok-add_entry.ensures.lawful c.in_ok-add_entry.ensures.added
-    c.in_ok-add_entry.ensures.span c.in_ok-push.ensures.items c.in_ok-look_at.ensures.ok
+    collects_more c.args.text.now c.args.options _ _ _ _ c.entries.spans.items _ c.entries.findings
+    c.look_at.new.findings _ c.next_entry.new.into inv (rw c.if-branch.true at (c.in_ok-next_entry.ensures.read
+    (body c.args.text.now) inv.entries inv.read)) c.in_ok-span.ensures.lawful c.in_ok-span.ensures.added
+    c.in_ok-span.ensures.span c.in_ok-push.ensures.items c.in_ok-look_at.ensures
 
 pub returns-clause-ok : goal.returns-clause-ok
 returns-clause-ok c =
