@@ -1,11 +1,16 @@
 /* Opening MO files by libkobdzila, in megabytes a second: each is read, checked and copied, and its index made. A plain
- * copy of the same bytes into fresh memory stands beside. Refused files are timed as well. Run by bench/mo/run. */
+ * copy of the same bytes into fresh memory stands beside, and the peak memory of a process that opens the file by its
+ * name. Refused files are timed as well. Run by bench/mo/run. */
+#define _DEFAULT_SOURCE
 #include "kobdzila.h"
 
 #include <stdio.h>
 #include <stdlib.h>
 #include <string.h>
+#include <sys/resource.h>
+#include <sys/wait.h>
 #include <time.h>
+#include <unistd.h>
 
 static double now(void) {
     struct timespec t;
@@ -49,9 +54,26 @@ static double to_copy(const unsigned char *bytes, size_t len) {
     return time;
 }
 
+/* The peak memory of a process that opens the file, in bytes. */
+static double peak_of(const char *name) {
+    pid_t child = fork();
+    if (!child) {
+        kob_release(kob_open_file(name, KOB_MO, 0, NULL));
+        _exit(0);
+    }
+    struct rusage used;
+    int status;
+    if (child < 0 || wait4(child, &status, 0, &used) < 0)
+        exit(1);
+    return used.ru_maxrss * 1024.0;
+}
+
 int main(int argc, char **argv) {
     int turns = atoi(argv[1]);
-    printf("file                bytes   ms to open     MB/s   ms to copy     MB/s\n");
+    double *peaks = calloc((size_t)argc, sizeof *peaks);
+    for (int i = 2; i < argc; i++) /* (first, while there is no memory that a child would inherit) */
+        peaks[i] = peak_of(argv[i]);
+    printf("file                bytes   ms to open     MB/s   ms to copy     MB/s      peak MB\n");
     for (int i = 2; i < argc; i++) {
         size_t len;
         unsigned char *bytes = read_file(argv[i], &len);
@@ -63,11 +85,12 @@ int main(int argc, char **argv) {
             t = to_copy(bytes, len);
             if (t < copied) copied = t;
         }
-        printf("%-15s %9zu %12.1f %8.0f %12.1f %8.0f%s%s\n", argv[i], len, opened / 1e6, len * 1e3 / opened,
-               copied / 1e6, len * 1e3 / copied, why.fault ? "   refused: " : "",
+        printf("%-15s %9zu %12.1f %8.0f %12.1f %8.0f %12.1f%s%s\n", argv[i], len, opened / 1e6, len * 1e3 / opened,
+               copied / 1e6, len * 1e3 / copied, peaks[i] / 1e6, why.fault ? "   refused: " : "",
                why.fault ? kob_fault_text(why.fault) : "");
         fflush(stdout);
         free(bytes);
     }
+    free(peaks);
     return 0;
 }
