@@ -96,12 +96,14 @@ typedef struct {
     unsigned line; /* in a PO file; 0 if the fault has no line */
 } kob_refusal;
 
-/* How to compile a PO file: 0, or any of these combined with `|`. For an MO file only KOB_STRICT counts. */
+/* How to open a file: 0, or any of these combined with `|`. For an MO file the first two don't count. */
 enum kob_options {
     KOB_CHECKED = 1,   /* run the checks of `msgfmt -c` */
     KOB_USE_FUZZY = 2, /* include fuzzy messages */
-    KOB_STRICT = 4     /* refuse a charset other than UTF-8 and US-ASCII, as `msgfmt` does, and an MO file's revision
+    KOB_STRICT = 4,    /* refuse a charset other than UTF-8 and US-ASCII, as `msgfmt` does, and an MO file's revision
                         * other than 0.0 */
+    KOB_WITHOUT_INDEX = 8 /* build no index, for a program that wants the MO file or the entries: opening takes less
+                           * time and memory, and look-ups answer the same but take longer */
 };
 
 /* The format of a file. */
@@ -262,9 +264,9 @@ typedef struct {
 typedef struct kob_format_faults kob_format_faults;
 
 /* List the faults of the formats in the PO file in `bytes`, as `msgfmt --check-format` of GNU gettext finds them: of each
- * entry that is flagged `python-format`, `python-brace-format`, `sh-format`, `qt-format`, `qt-plural-format`,
- * `kde-format`, `perl-brace-format`, `php-format` or `ycp-format` and that is in the catalogue with these options, of
- * which KOB_STRICT doesn't count. Formats of C are checked by kob_open_po with KOB_CHECKED. Return the list, which may
+ * entry that is flagged `python-format`, `python-brace-format`, `javascript-format`, `sh-format`, `qt-format`,
+ * `qt-plural-format`, `kde-format`, `perl-format`, `perl-brace-format`, `php-format` or `ycp-format` and that is in the
+ * catalogue with these options, of which KOB_STRICT doesn't count. Formats of C are checked by kob_open_po with KOB_CHECKED. Return the list, which may
  * be empty, and which the caller frees with kob_format_faults_free. If the file is refused, return NULL and store the
  * reason in *why, as kob_open_po does; of an entry's content nothing else is checked. */
 kob_format_faults *kob_check_formats(const void *bytes, size_t len, unsigned options, kob_refusal *why);

@@ -156,7 +156,8 @@ static bool refuse_formats(const struct run *run, struct catalogue *it, struct t
 }
 
 static void compile_text(const struct run *run, struct catalogue *it, struct text_bytes text) {
-    unsigned how = (run->options.checks ? KOB_CHECKED : 0) | (run->options.keeps_fuzzy ? KOB_USE_FUZZY : 0);
+    unsigned how = (run->options.checks ? KOB_CHECKED : 0) | (run->options.keeps_fuzzy ? KOB_USE_FUZZY : 0)
+                   | KOB_WITHOUT_INDEX; /* (one message is looked up, the header) */
     kob_refusal why;
     kob_catalogue *made = kob_open_po(text.at, text.len, how, &why);
     if (!made) {

@@ -47,9 +47,10 @@ enum { BUSY = 203 };
 
 /* ---- catalogues */
 size_t kobdzila_size(void);
-void kobdzila_open_mo(const unsigned char *bytes, size_t len, uint32_t strict, struct held_catalogue *out);
-void kobdzila_open_po(const unsigned char *bytes, size_t len, uint32_t checked, uint32_t use_fuzzy, uint32_t strict,
+void kobdzila_open_mo(const unsigned char *bytes, size_t len, uint32_t strict, uint32_t without_index,
                       struct held_catalogue *out);
+void kobdzila_open_po(const unsigned char *bytes, size_t len, uint32_t checked, uint32_t use_fuzzy, uint32_t strict,
+                      uint32_t without_index, struct held_catalogue *out);
 void kobdzila_close(struct held_catalogue *catalogue);
 uint64_t kobdzila_number(const struct held_catalogue *catalogue, uint32_t which, uint64_t place);
 void kobdzila_text(const struct held_catalogue *catalogue, uint32_t part, uint64_t place, uint64_t form,

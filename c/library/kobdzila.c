@@ -25,15 +25,15 @@ static kob_catalogue *opened(kob_catalogue *c, kob_refusal *why) {
     return NULL;
 }
 
-/* Open an MO file in memory that nobody writes to meanwhile: it is read again after it was checked. Of the options only
- * KOB_STRICT counts. */
+/* Open an MO file in memory that nobody writes to meanwhile: it is read again after it was checked. The options that say
+ * how to compile don't count. */
 static kob_catalogue *open_own_mo(const unsigned char *bytes, size_t len, unsigned options, kob_refusal *why) {
     if (len > MOST_MO)
         return refuse(why, KOB_MO_TOO_LARGE, 0);
     kob_catalogue *c = room_for_catalogue(why);
     if (!c)
         return NULL;
-    kobdzila_open_mo(bytes, len, options & KOB_STRICT, held_catalogue(c));
+    kobdzila_open_mo(bytes, len, options & KOB_STRICT, options & KOB_WITHOUT_INDEX, held_catalogue(c));
     return opened(c, why);
 }
 
@@ -59,7 +59,7 @@ kob_catalogue *kob_open_po(const void *bytes, size_t len, unsigned options, kob_
     if (!c)
         return NULL;
     kobdzila_open_po(len ? bytes : "", len, options & KOB_CHECKED, options & KOB_USE_FUZZY, options & KOB_STRICT,
-                     held_catalogue(c));
+                     options & KOB_WITHOUT_INDEX, held_catalogue(c));
     return opened(c, why);
 }
 

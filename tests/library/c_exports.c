@@ -121,7 +121,7 @@ static void current_readers(void) {
 int main(void) {
     static const unsigned char po[] = "msgid \"file\"\nmsgstr \"Datei\"\n";
     catalogue = room(kobdzila_size());
-    kobdzila_open_po(po, sizeof po - 1, 0, 0, 0, catalogue);
+    kobdzila_open_po(po, sizeof po - 1, 0, 0, 0, 0, catalogue);
     store = room(kobdzila_store_size());
     kobdzila_store_open(store);
     refused_publishes();

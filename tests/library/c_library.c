@@ -555,6 +555,7 @@ static void calls(void) {
     po_refusals();
     mo_refusals();
     system_strings("c_library.mo");
+    without_index("c_library.mo");
     fault_texts();
 }
 

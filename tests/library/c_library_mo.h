@@ -124,4 +124,29 @@ static void system_strings(const char *name) {
     refuses_mo(bytes, sizeof bytes, KOB_MO_DEPENDENT_SEGMENT);
 }
 
+/* A catalogue without an index, of a PO text or of its MO file, answers as with one. */
+static void without_index(const char *name) {
+    enum { COUNT = 300 };
+    char bytes[64 * COUNT], *end = bytes, msgid[20], wanted[20];
+    for (int i = 0; i < COUNT; i++)
+        end += sprintf(end, "msgid \"message %d\"\nmsgstr \"Meldung %d\"\n", i, i);
+    kob_catalogue *c = kob_open_po(bytes, strlen(bytes), KOB_WITHOUT_INDEX, NULL);
+    is("a PO text is opened without an index", c && kob_count(c) == COUNT);
+    kob_text file = kob_mo_file(c);
+    FILE *f = fopen(name, "wb");
+    is("its MO file is written", f && fwrite(file.at, 1, file.len, f) == file.len && !fclose(f));
+    kob_catalogue *read = kob_open_file(name, KOB_MO, KOB_WITHOUT_INDEX, NULL);
+    is("an MO file is opened without an index", read && kob_count(read) == COUNT);
+    for (int i = 0; i < COUNT; i++) {
+        snprintf(msgid, sizeof msgid, "message %d", i);
+        snprintf(wanted, sizeof wanted, "Meldung %d", i);
+        is("each message of the PO text", !strcmp(kob_gettext(c, msgid), wanted));
+        is("each message of the MO file", !strcmp(kob_gettext(read, msgid), wanted));
+    }
+    is("a message that isn't there", !strcmp(kob_gettext(c, "message"), "message"));
+    kob_release(c);
+    kob_release(read);
+    unlink(name);
+}
+
 #endif

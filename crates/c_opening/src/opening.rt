@@ -52,19 +52,25 @@ fn refused(fault: u32, line: u32) -> Opened
     }
 }
 
-/// Builds the catalogue's index, and makes the catalogue shareable.
-fn shared(alloc: Global, mut catalogue: Catalogue) -> Result<Arc<Catalogue>, AllocError>
+/// Makes a catalogue shareable, and builds its index unless `without_index` is set.
+fn shared(
+    alloc: Global,
+    mut catalogue: Catalogue,
+    without_index: bool,
+) -> Result<Arc<Catalogue>, AllocError>
     ensures { IfOk result (λ shared. arc_value shared ≡ catalogue) }
 {
-    catalogue.index(alloc)?;
+    if !without_index {
+        catalogue.index(alloc)?;
+    }
     Ok(Arc::new(alloc, catalogue)?)
 }
 
 /// A catalogue as C holds it, or out of memory.
-fn kept(alloc: Global, catalogue: Catalogue, stats: Stats) -> Opened
+fn kept(alloc: Global, catalogue: Catalogue, stats: Stats, without_index: bool) -> Opened
     ensures { IsOpenedMap catalogue stats result }
 {
-    match shared(alloc, catalogue) {
+    match shared(alloc, catalogue, without_index) {
         Ok(catalogue) => Opened {
             catalogue: Some(catalogue),
             fault: NO_FAULT,
@@ -125,12 +131,13 @@ fn read_file(alloc: Global, bytes: &[u8], is_strict: bool) -> Result<Catalogue, 
     }
 }
 
-/// The catalogue of an MO file, or the first reason why it is refused. The option `strict` is on if it isn't 0.
-pub fn open_mo(alloc: Global, bytes: &[u8], strict: u32) -> Opened
+/// The catalogue of an MO file, or the first reason why it is refused. An option is on if its number isn't 0; with
+/// `without_index` the catalogue gets no index, and answers as with one.
+pub fn open_mo(alloc: Global, bytes: &[u8], strict: u32, without_index: u32) -> Opened
     ensures { IsOpenedMo bytes.now (nat_lt 0 strict) result }
 {
     match read_file(alloc, bytes, strict > 0) {
-        Ok(catalogue) => kept(alloc, catalogue, NO_STATS),
+        Ok(catalogue) => kept(alloc, catalogue, NO_STATS, without_index > 0),
         Err(fault) => refused(file_fault_number(fault), 0),
     }
 }
@@ -200,12 +207,20 @@ pub fn options_of(checked: u32, use_fuzzy: u32) -> Options
     }
 }
 
-/// The catalogue of a PO text, or the first reason why it is refused. An option is on if its number isn't 0.
-pub fn open_po(alloc: Global, bytes: &[u8], checked: u32, use_fuzzy: u32, strict: u32) -> Opened
+/// The catalogue of a PO text, or the first reason why it is refused. An option is on if its number isn't 0; with
+/// `without_index` the catalogue gets no index, and answers as with one.
+pub fn open_po(
+    alloc: Global,
+    bytes: &[u8],
+    checked: u32,
+    use_fuzzy: u32,
+    strict: u32,
+    without_index: u32,
+) -> Opened
     ensures { IsOpenedPo bytes.now (options_of checked use_fuzzy) (nat_lt 0 strict) result }
 {
     match compile_text(alloc, bytes, options_of(checked, use_fuzzy), strict > 0) {
-        Ok(compiled) => kept(alloc, compiled.catalogue, compiled.stats),
+        Ok(compiled) => kept(alloc, compiled.catalogue, compiled.stats, without_index > 0),
         Err(fault) => refused_text(fault),
     }
 }

@@ -61,23 +61,26 @@ pub extern "C" fn kobdzila_size() -> usize
     c_answers::opened_size()
 }
 
-/// Opens an MO file, and writes its catalogue, or why it is refused, to `out`. If `strict` isn't 0 its revision must be
-/// 0.0; otherwise it may be any that `mo_revisions` reads.
+/// Opens an MO file, and writes its catalogue, or why it is refused, to `out`. An option is on if its argument isn't 0.
+/// With `strict` its revision must be 0.0; otherwise it may be any that `mo_revisions` reads. With `without_index` the
+/// catalogue gets no index.
 #[unsafe(no_mangle)]
 pub unsafe extern "C" fn kobdzila_open_mo(
     alloc: Global,
     bytes: &[u8],
     strict: u32,
+    without_index: u32,
     out: *mut Opaque,
 )
     requires* { sem 𝓛 (room_at the_row out) }
     ensures* { sem 𝓛 (mo_opened_at out bytes.now (nat_lt 0 strict)) }
 {
-    (out as *mut Opened).write(c_opening::open_mo(alloc, bytes, strict));
+    (out as *mut Opened).write(c_opening::open_mo(alloc, bytes, strict, without_index));
 }
 
 /// Compiles a PO text, and writes its catalogue, or why it is refused, to `out`. An option is on if its argument isn't
-/// 0. With `strict` the text must be UTF-8; otherwise it may be in any charset of `charsets`.
+/// 0. With `strict` the text must be UTF-8; otherwise it may be in any charset of `charsets`. With `without_index` the
+/// catalogue gets no index.
 #[unsafe(no_mangle)]
 pub unsafe extern "C" fn kobdzila_open_po(
     alloc: Global,
@@ -85,12 +88,20 @@ pub unsafe extern "C" fn kobdzila_open_po(
     checked: u32,
     use_fuzzy: u32,
     strict: u32,
+    without_index: u32,
     out: *mut Opaque,
 )
     requires* { sem 𝓛 (room_at the_row out) }
     ensures* { sem 𝓛 (po_opened_at out bytes.now (options_of checked use_fuzzy) (nat_lt 0 strict)) }
 {
-    (out as *mut Opened).write(c_opening::open_po(alloc, bytes, checked, use_fuzzy, strict));
+    (out as *mut Opened).write(c_opening::open_po(
+        alloc,
+        bytes,
+        checked,
+        use_fuzzy,
+        strict,
+        without_index,
+    ));
 }
 
 /// Drops the catalogue at `held`, and gives its memory back to C.

@@ -90,6 +90,7 @@ pub const KOB_VERSIONS_SPENT: c_uint = 204;
 pub const KOB_CHECKED: c_uint = 1;
 pub const KOB_USE_FUZZY: c_uint = 2;
 pub const KOB_STRICT: c_uint = 4;
+pub const KOB_WITHOUT_INDEX: c_uint = 8;
 pub const KOB_MO: c_uint = 0;
 pub const KOB_PO: c_uint = 1;
 

@@ -44,7 +44,10 @@ use Rattle.c_opening.specs.contracts.open_mo as g
 use Rattle.c_opening.proofs.open_mo.Met.{met}
 
 abbrev stayed : Stays f.ended.signature.params f.ended.kept
-stayed = (stay_dropped _ yes, (stay_dropped _ yes, (stay_dropped _ yes, (stay_dropped _ yes, tt))))
+stayed = (
+  stay_dropped _ yes,
+  (stay_dropped _ yes, (stay_dropped _ yes, (stay_dropped _ yes, (stay_dropped _ yes, tt)))),
+)
 
 pub kobdzila_open_mo_spec : {M : Type 1} → statement M
 kobdzila_open_mo_spec 𝓤 𝓛 𝓜 𝓡 wired =
@@ -57,67 +60,77 @@ kobdzila_open_mo_spec 𝓤 𝓛 𝓜 𝓡 wired =
         (
           Goes-dropped 𝓛 1 (plain (λ _. u32)) yes (λ κs x w. refl),
           (
-            Goes-dropped 𝓛 1 (plain (λ _. RawPtr)) yes (λ κs x w. refl),
-            tt,
+            Goes-dropped 𝓛 1 (plain (λ _. u32)) yes (λ κs x w. refl),
+            (
+              Goes-dropped 𝓛 1 (plain (λ _. RawPtr)) yes (λ κs x w. refl),
+              tt,
+            ),
           ),
         ),
       ),
     )
     f.Key.name code.function (code.unfolded 𝓤 𝓛.H 𝓜 𝓡 wired)
-    (λ κs. ((λ _. heap_val ∷ []), (shr_slice_vals, (uint_vals w32, (rawptr_vals, tt))))) (λ κs. (
+    (λ κs. ((λ _. heap_val ∷ []), (shr_slice_vals, (uint_vals w32, (uint_vals w32, (rawptr_vals, tt)))))) (λ κs. (
       heap_Tells,
       (
         shr_slice_Tells (named
             0) κs.0 u8,
-        (uint_Tells w32, (rawptr_Tells, tt)),
+        (uint_Tells w32, (uint_Tells w32, (rawptr_Tells, tt))),
       ),
     )) (λ κs qs bounds a gh are.
-    let id : Bor (List ℕ) = a.1.0 in let strict : ℕ = a.1.1.0 in let out : Ptr = a.1.1.1.0 in
+    let id : Bor (List ℕ) = a.1.0 in let strict : ℕ = a.1.1.0 in let bare : ℕ = a.1.1.1.0 in
+    let out : Ptr = a.1.1.1.1.0 in
     let y : Ptr → W.Ghost = λ r. (
       (
         κs,
         qs,
         bounds,
-        (a.0, (id, (strict, (r, tt)))),
+        (a.0, (id, (strict, (bare, (r, tt))))),
         (
           heap_val ∷ [],
           (
             shr_slice_vals id,
-            (vint w32 strict ∷ [], (rawptr_vals r, tt)),
+            (vint w32 strict ∷ [], (vint w32 bare ∷ [], (rawptr_vals r, tt))),
           ),
         ),
       ),
       gh,
     ) in
     let toks = ‵ (flft κs.0 qs.0) ⊛ ‵ ftrue in
-    qed 𝓛 ((toks ⊛ ‵ (owns (Heap.the_row ∷ ShrSlice (named 0) κs.0 u8 ∷ u32 ∷ RawPtr ∷ []) a
+    qed 𝓛 ((toks ⊛ ‵ (owns (Heap.the_row ∷ ShrSlice (named 0) κs.0 u8 ∷ u32 ∷ u32 ∷ RawPtr ∷ []) a
     (y out).0.4)) ∷ ‵ (room_at R out) ∷ []) ∵
     split ! $ move ! (1 ∷ []) $ fsplit ! $ move ! (1 ∷ []) $ fsplit ! $ move ! (1 ∷ []) $ fsplit ! $
-    move ! (1 ∷ []) $ drop ! $
-    -- [the option; the file; the allocator; the tokens; the room]
-    move ! (4 ∷ []) $ in_a_block ! out (λ r. room_at R r) (id⊢ 𝓤 _) (λ b o e.
+    move ! (1 ∷ []) $ fsplit ! $ move ! (1 ∷ []) $ drop ! $
+    -- [the two options; the file; the allocator; the tokens; the room]
+    move ! (5 ∷ []) $ in_a_block ! out (λ r. room_at R r) (id⊢ 𝓤 _) (λ b o e.
     regoal ! (λ r. prop (WpFn 𝓤 𝓛.H 𝓣.C 𝓣.Λ code.function (heap_val ∷ (shr_slice_vals id ++ (vint w32 strict ∷
-    (rawptr_vals r ++ [])))) (W.post (y r)))) e refl $
+    (vint w32 bare ∷ (rawptr_vals r ++ []))))) (W.post (y r)))) e refl $
     enter ! _ _ _ _ _ $ alloc_all ! (λ l. pass_all ! refl (
       (tt, ((tt, tt), tt)),
       (
         ((shr_slice_Lawful 𝓛 (named 0) κs.0
             u8).typed id _ are.1.0).0,
-        ((tt, record { fits = are.1.1.0.1 }), ((tt, tt), tt)),
+        ((tt, record { fits = are.1.1.0.1 }), ((tt, record { fits = are.1.1.1.0.1 }), ((tt, tt), tt))),
       ),
     ) $
     sets ! (of_opd ! (get ! refl)) refl (tt, tt) $
     -- [the room; the file; the allocator; the tokens]
     let G = triple_of 𝓛 g.signature (g.spec 𝓛 𝓜.mem 𝓡.returns) in
     let z : G.Ghost = (
-      (κs, qs, tt, (a.0, (id, (strict, tt))), (heap_val ∷ [], (shr_slice_vals id, (vint w32 strict ∷ [], tt)))),
+      (
+        κs,
+        qs,
+        tt,
+        (a.0, (id, (strict, (bare, tt)))),
+        (heap_val ∷ [], (shr_slice_vals id, (vint w32 strict ∷ [], (vint w32 bare ∷ [], tt)))),
+      ),
       tt,
     ) in
     nothing ! $ move ! (2 ∷ 0 ∷ []) $ fjoin ! $ move ! (2 ∷ 0 ∷ []) $ fjoin ! $ move ! (2 ∷ 0 ∷ []) $ fjoin ! $
-    move ! (2 ∷ 0 ∷ []) $ join ! $
+    move ! (2 ∷ 0 ∷ []) $ fjoin ! $ move ! (2 ∷ 0 ∷ []) $ join ! $
     nothing ! $ move ! (1 ∷ 0 ∷ []) $ join ! $ use1 𝓛 (raw (G.pre z)) (id⊢ 𝓤 _) $
     calls_at ! (framed 𝓤 𝓛.H 𝓜 𝓣) G (met 𝓤 𝓛 𝓜 𝓡 (code.calls-c_opening::open_mo 𝓡.env wired)) z (and_then !
-    (get ! refl) (and_then ! (get ! refl) (and_then ! (get ! refl) (no_more !)))) (λ v.
+    (get ! refl) (and_then ! (get ! refl) (and_then ! (get ! refl) (and_then ! (get ! refl) (no_more !))))) (λ v.
     use1 𝓛 (later (some (λ (r : Opened). (toks ⊛ ‵ (R.own_val r (v ∷ []))) ⊛ some (λ (ws : Lasts g.ended z.0.0
     z.0.3). ‵ (lasts g.ended z.0.0 z.0.3 ws) ⊛ raw (fact 𝓤 (IsOpenedMo id.now (nat_lt 0 strict) r)))))) (id⊢ 𝓤 _) $
     await ! tt $ pick ! (λ r. split ! $ split ! $ move ! (2 ∷ []) $ pick ! (λ ws. split ! $ drop ! $
@@ -131,8 +144,8 @@ kobdzila_open_mo_spec 𝓤 𝓛 𝓜 𝓡 wired =
     move ! (2 ∷ 0 ∷ []) $ use2 𝓛 (‵ (part_at R full_share r b o)) (part_in 𝓛 R refl full_share r b o v) $
     fpack ! (IsOpenedMo id.now (nat_lt 0 strict) r) (λ _. holds (block_ptr b o) r) ok $
     fpack ! Opened (λ r'. fex (IsOpenedMo id.now (nat_lt 0 strict) r') (λ _. holds (block_ptr b o) r')) r $
-    suffices ! _ (ends_at 𝓛 f.ended stayed c (y (block_ptr b o)) vunit tt (tt, (tt, (tt, (tt, tt))))
-    (tt, (tt, (tt, (tt, tt))))) $
+    suffices ! _ (ends_at 𝓛 f.ended stayed c (y (block_ptr b o)) vunit tt (tt, (tt, (tt, (tt, (tt, tt)))))
+    (tt, (tt, (tt, (tt, (tt, tt)))))) $
     feq_i ! (List Val) (vunit ∷ []) (vunit ∷ []) refl $ nothing ! $ nothing ! $ join ! $ nothing ! $ join ! $
-    nothing ! $ join ! $ nothing ! $ join ! $
+    nothing ! $ join ! $ nothing ! $ join ! $ nothing ! $ join ! $
     move ! (3 ∷ []) $ group ! 3 $ done !))))))))

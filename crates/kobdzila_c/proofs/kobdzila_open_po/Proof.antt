@@ -54,7 +54,7 @@ stayed = (
         stay_dropped _ yes,
         (
           stay_dropped _ yes,
-          (stay_dropped _ yes, tt),
+          (stay_dropped _ yes, (stay_dropped _ yes, tt)),
         ),
       ),
     ),
@@ -76,9 +76,12 @@ kobdzila_open_po_spec 𝓤 𝓛 𝓜 𝓡 wired =
             (
               Goes-dropped 𝓛 1 (plain (λ _. u32)) yes (λ κs x w. refl),
               (
-                Goes-dropped 𝓛 1 (plain (λ _. RawPtr)) yes (λ κs x w.
-                    refl),
-                tt,
+                Goes-dropped 𝓛 1 (plain (λ _. u32)) yes (λ κs x w. refl),
+                (
+                  Goes-dropped 𝓛 1 (plain (λ _. RawPtr)) yes (λ κs x w.
+                      refl),
+                  tt,
+                ),
               ),
             ),
           ),
@@ -97,8 +100,11 @@ kobdzila_open_po_spec 𝓤 𝓛 𝓜 𝓡 wired =
             (
               uint_vals w32,
               (
-                rawptr_vals,
-                tt,
+                uint_vals w32,
+                (
+                  rawptr_vals,
+                  tt,
+                ),
               ),
             ),
           ),
@@ -114,7 +120,7 @@ kobdzila_open_po_spec 𝓤 𝓛 𝓜 𝓡 wired =
             uint_Tells w32,
             (
               uint_Tells w32,
-              (rawptr_Tells, tt),
+              (uint_Tells w32, (rawptr_Tells, tt)),
             ),
           ),
         ),
@@ -122,33 +128,36 @@ kobdzila_open_po_spec 𝓤 𝓛 𝓜 𝓡 wired =
     )) (λ κs
     qs bounds a gh are.
     let id : Bor (List ℕ) = a.1.0 in let checked : ℕ = a.1.1.0 in let fuzzy : ℕ = a.1.1.1.0 in
-    let strict : ℕ = a.1.1.1.1.0 in
-    let out : Ptr = a.1.1.1.1.1.0 in let options = options_of checked fuzzy in
+    let strict : ℕ = a.1.1.1.1.0 in let bare : ℕ = a.1.1.1.1.1.0 in
+    let out : Ptr = a.1.1.1.1.1.1.0 in let options = options_of checked fuzzy in
     let y : Ptr → W.Ghost = λ r. (
       (
         κs,
         qs,
         bounds,
-        (a.0, (id, (checked, (fuzzy, (strict, (r, tt)))))),
+        (a.0, (id, (checked, (fuzzy, (strict, (bare, (r, tt))))))),
         (
           heap_val ∷ [],
           (
             shr_slice_vals id,
-            (vint w32 checked ∷ [], (vint w32 fuzzy ∷ [], (vint w32 strict ∷ [], (rawptr_vals r, tt)))),
+            (
+              vint w32 checked ∷ [],
+              (vint w32 fuzzy ∷ [], (vint w32 strict ∷ [], (vint w32 bare ∷ [], (rawptr_vals r, tt)))),
+            ),
           ),
         ),
       ),
       gh,
     ) in
     let toks = ‵ (flft κs.0 qs.0) ⊛ ‵ ftrue in
-    qed 𝓛 ((toks ⊛ ‵ (owns (Heap.the_row ∷ ShrSlice (named 0) κs.0 u8 ∷ u32 ∷ u32 ∷ u32 ∷ RawPtr ∷ []) a
+    qed 𝓛 ((toks ⊛ ‵ (owns (Heap.the_row ∷ ShrSlice (named 0) κs.0 u8 ∷ u32 ∷ u32 ∷ u32 ∷ u32 ∷ RawPtr ∷ []) a
     (y out).0.4)) ∷ ‵ (room_at R out) ∷ []) ∵
     split ! $ move ! (1 ∷ []) $ fsplit ! $ move ! (1 ∷ []) $ fsplit ! $ move ! (1 ∷ []) $ fsplit ! $
-    move ! (1 ∷ []) $ fsplit ! $ move ! (1 ∷ []) $ fsplit ! $ move ! (1 ∷ []) $ drop ! $
-    -- [the three options; the text; the allocator; the tokens; the room]
-    move ! (6 ∷ []) $ in_a_block ! out (λ r. room_at R r) (id⊢ 𝓤 _) (λ b o e.
+    move ! (1 ∷ []) $ fsplit ! $ move ! (1 ∷ []) $ fsplit ! $ move ! (1 ∷ []) $ fsplit ! $ move ! (1 ∷ []) $ drop ! $
+    -- [the four options; the text; the allocator; the tokens; the room]
+    move ! (7 ∷ []) $ in_a_block ! out (λ r. room_at R r) (id⊢ 𝓤 _) (λ b o e.
     regoal ! (λ r. prop (WpFn 𝓤 𝓛.H 𝓣.C 𝓣.Λ code.function (heap_val ∷ (shr_slice_vals id ++ (vint w32 checked ∷ (vint
-    w32 fuzzy ∷ (vint w32 strict ∷ (rawptr_vals r ++ [])))))) (W.post (y r)))) e refl $
+    w32 fuzzy ∷ (vint w32 strict ∷ (vint w32 bare ∷ (rawptr_vals r ++ []))))))) (W.post (y r)))) e refl $
     enter ! _ _ _ _ _ $ alloc_all ! (λ l. pass_all ! refl (
       (tt, ((tt, tt), tt)),
       (
@@ -161,11 +170,14 @@ kobdzila_open_po_spec 𝓤 𝓛 𝓜 𝓡 wired =
             (
               (tt, record { fits = are.1.1.1.1.0.1 }),
               (
+                (tt, record { fits = are.1.1.1.1.1.0.1 }),
                 (
-                  tt,
+                  (
+                    tt,
+                    tt,
+                  ),
                   tt,
                 ),
-                tt,
               ),
             ),
           ),
@@ -180,7 +192,7 @@ kobdzila_open_po_spec 𝓤 𝓛 𝓜 𝓡 wired =
         κs,
         qs,
         tt,
-        (a.0, (id, (checked, (fuzzy, (strict, tt))))),
+        (a.0, (id, (checked, (fuzzy, (strict, (bare, tt)))))),
         (
           heap_val ∷ [],
           (
@@ -188,7 +200,7 @@ kobdzila_open_po_spec 𝓤 𝓛 𝓜 𝓡 wired =
             (
               vint
                   w32 checked ∷ [],
-              (vint w32 fuzzy ∷ [], (vint w32 strict ∷ [], tt)),
+              (vint w32 fuzzy ∷ [], (vint w32 strict ∷ [], (vint w32 bare ∷ [], tt))),
             ),
           ),
         ),
@@ -196,12 +208,13 @@ kobdzila_open_po_spec 𝓤 𝓛 𝓜 𝓡 wired =
       tt,
     ) in
     nothing ! $ move ! (2 ∷ 0 ∷ []) $ fjoin ! $ move ! (2 ∷ 0 ∷ []) $ fjoin ! $ move ! (2 ∷ 0 ∷ []) $ fjoin ! $
-    move ! (2 ∷ 0 ∷ []) $ fjoin ! $ move ! (2 ∷ 0 ∷ []) $ fjoin ! $ move ! (2 ∷ 0 ∷ []) $ join ! $ nothing ! $
+    move ! (2 ∷ 0 ∷ []) $ fjoin ! $ move ! (2 ∷ 0 ∷ []) $ fjoin ! $ move ! (2 ∷ 0 ∷ []) $ fjoin ! $
+    move ! (2 ∷ 0 ∷ []) $ join ! $ nothing ! $
     move ! (1 ∷ 0 ∷ []) $ join ! $
     use1 𝓛 (raw (G.pre z)) (id⊢ 𝓤 _) $
     calls_at ! (framed 𝓤 𝓛.H 𝓜 𝓣) G (met 𝓤 𝓛 𝓜 𝓡 (code.calls-c_opening::open_po 𝓡.env wired)) z (and_then !
     (get ! refl) (and_then ! (get ! refl) (and_then ! (get ! refl) (and_then ! (get ! refl) (and_then ! (get ! refl)
-    (no_more !)))))) (λ v.
+    (and_then ! (get ! refl) (no_more !))))))) (λ v.
     use1 𝓛 (later (some (λ (r : Opened). (toks ⊛ ‵ (R.own_val r (v ∷ []))) ⊛ some (λ (ws : Lasts g.ended z.0.0
     z.0.3). ‵ (lasts g.ended z.0.0 z.0.3 ws) ⊛ raw (fact 𝓤 (IsOpenedPo id.now options (nat_lt 0 strict) r))))))
     (id⊢ 𝓤 _) $
@@ -216,13 +229,13 @@ kobdzila_open_po_spec 𝓤 𝓛 𝓜 𝓡 wired =
     move ! (2 ∷ 0 ∷ []) $ use2 𝓛 (‵ (part_at R full_share r b o)) (part_in 𝓛 R refl full_share r b o v) $
     fpack ! (IsOpenedPo id.now options (nat_lt 0 strict) r) (λ _. holds (block_ptr b o) r) ok $
     fpack ! Opened (λ r'. fex (IsOpenedPo id.now options (nat_lt 0 strict) r') (λ _. holds (block_ptr b o) r')) r $
-    suffices ! _ (ends_at 𝓛 f.ended stayed c (y (block_ptr b o)) vunit tt (tt, (tt, (tt, (tt, (tt, (tt, tt)))))) (
+    suffices ! _ (ends_at 𝓛 f.ended stayed c (y (block_ptr b o)) vunit tt (tt, (tt, (tt, (tt, (tt, (tt, (tt, tt))))))) (
       tt,
       (
         tt,
-        (tt, (tt, (tt, (tt, tt)))),
+        (tt, (tt, (tt, (tt, (tt, tt))))),
       ),
     )) $
     feq_i ! (List Val) (vunit ∷ []) (vunit ∷ []) refl $ nothing ! $ nothing ! $ join ! $ nothing ! $ join ! $
-    nothing ! $ join ! $ nothing ! $ join ! $ nothing ! $ join ! $ nothing ! $ join ! $
+    nothing ! $ join ! $ nothing ! $ join ! $ nothing ! $ join ! $ nothing ! $ join ! $ nothing ! $ join ! $
     move ! (3 ∷ []) $ group ! 3 $ done !))))))))
