@@ -24,10 +24,12 @@ static const struct language {
 } languages[] = {
     {KOB_PYTHON_FORMAT, "python-format", "Python ", read_python_format, python_difference},
     {KOB_PYTHON_BRACE_FORMAT, "python-brace-format", "Python brace ", read_brace_format, brace_difference},
+    {KOB_JAVASCRIPT_FORMAT, "javascript-format", "JavaScript ", NULL, NULL},
     {KOB_SH_FORMAT, "sh-format", "Shell ", NULL, NULL},
     {KOB_QT_FORMAT, "qt-format", "Qt ", NULL, NULL},
     {KOB_QT_PLURAL_FORMAT, "qt-plural-format", "Qt plural ", NULL, NULL},
     {KOB_KDE_FORMAT, "kde-format", "KDE ", NULL, NULL},
+    {KOB_PERL_FORMAT, "perl-format", "Perl ", NULL, NULL},
     {KOB_PERL_BRACE_FORMAT, "perl-brace-format", "Perl brace ", NULL, NULL},
     {KOB_PHP_FORMAT, "php-format", "PHP ", NULL, NULL},
     {KOB_YCP_FORMAT, "ycp-format", "YCP ", NULL, NULL},

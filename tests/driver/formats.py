@@ -37,6 +37,12 @@ NAME_FAULTS = ("{", "{}", "{a", "{1}", "{a-}", "{ a}", "{{a}}", "{a{b}", "}", "$
                "$\u00e9", "${\u00e9}", "${a\u00e9}", "$a\u00e9", "$(a)", "${a}}", "${{a}}", "{a.b}", "$-", "$ a")  # fmt: skip
 PHP = ("%s", "%s", "%d", "%1$s", "%1$s", "%2$d", "%2$d", "%f", "%e", "%c", "%x", "%%", "%'x5d", "%-05.2f", "%ld", "%4294967297$s")
 PHP_FAULTS = ("%", "%y", "%E", "%F", "%0$s", "%5%", "%'", "%.f", "%.", "%1$d", "%2$s", "%+d", "%1$", "%\u00e9")
+PERL = ("%s", "%s", "%d", "%1$s", "%1$s", "%2$d", "%2$d", "%ld", "%u", "%D", "%lld", "%qd", "%f", "%Lf", "%c", "%p", "%n", "%_", "%%",
+        "%vd", "%*vd", "%*2$vd", "%*d", "%-05.2f", "%.*f", "%2$*1$d", "%5%", "%Vx", "%4294967297$s")  # fmt: skip
+PERL_FAULTS = ("%", "%y", "%hhd", "%0$s", "%01$s", "%lf", "%he", "%a", "%v05d", "%*0$d", "%1$d", "%2$s", "%1$", "%l", "%.", "%\u00e9")
+SCRIPT = ("%s", "%s", "%d", "%s", "%1$s", "%1$s", "%2$d", "%x", "%j", "%1$j", "%f", "%c", "%%", "%5%", "%I05d", "%-5.2f", "%.f", "%4294967297$s")
+# No number but 1 has two kinds: GNU msgfmt 0.21 looks for any object in a wrong place if a number before is left out.
+SCRIPT_FAULTS = ("%", "%y", "%i", "%u", "%e", "%0$s", "%'5s", "%#x", "%*d", "%ld", "%1$d", "%1$", "%.", "%\u00e9")
 # The other languages that are checked, each with directives and with faults.
 OTHERS = {
     "kde-format": (tuple(text for text in NUMBERS if text[1] not in "Ln0") + ("%1", "%2"), NUMBER_FAULTS),
@@ -46,6 +52,8 @@ OTHERS = {
     "perl-brace-format": (NAMES, NAME_FAULTS),
     "sh-format": (tuple(text for text in NAMES if text[0] == "$"), NAME_FAULTS),
     "php-format": (PHP, PHP_FAULTS),
+    "perl-format": (PERL, PERL_FAULTS),
+    "javascript-format": (SCRIPT, SCRIPT_FAULTS),
 }
 FAULT = re.compile(rb"^[^\n:]*:(\d+): (.*)$")
 COUNT = re.compile(rb"^[^\n]*: found (\d+) fatal errors?$")

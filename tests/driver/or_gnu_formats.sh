@@ -66,6 +66,11 @@ fault 'Qt, no longer simple' qt-format '%1' '%L1' "$differ"
 fault 'Qt, no number' qt-plural-format '%n' 'x' "$differ"
 fault 'YCP, no digit' ycp-format '%1' '%1 %' "'msgstr' is not a valid YCP format string, unlike 'msgid'."
 fault 'Perl, a name left out' perl-brace-format '{a} {b}' '{a}' "$differ"
+fault 'Perl, another size' perl-format '%ld' '%d' "$differ"
+fault 'Perl, no such size' perl-format '%s' '%hhd' "'msgstr' is not a valid Perl format string, unlike 'msgid'."
+fault 'JavaScript, any object' javascript-format '%s' '%j' "$differ"
+fault 'JavaScript, numbers and none' javascript-format '%s %d' '%s %2$d' \
+  "'msgstr' is not a valid JavaScript format string, unlike 'msgid'."
 fault 'the shell, another name' sh-format '$a' '${b}' "$differ"
 fault 'the shell, no name' sh-format '$a' '$a $1' "'msgstr' is not a valid Shell format string, unlike 'msgid'."
 
@@ -107,12 +112,13 @@ served 'no fault, braces' ours python-brace-format '{a} {b.c}' '{b.c} {a}' --che
 served 'no fault of two' ours 'python-format, python-brace-format' '%d {a}' '{a} %d' -c
 served 'no fault, KDE' ours kde-format '%1 %2' '%2 %1' -c
 served 'no fault, Perl' ours perl-brace-format '{a}' '{a} {b}' -c
+served 'no fault, JavaScript' ours javascript-format '%s %d' '%2$x %1$s' -c
 served 'fuzzy' ours 'fuzzy, python-format' '%d' '%s' -c
 served 'fuzzy and used' 'GNU\t1\tpython-format' 'fuzzy, python-format' '%d' '%s' -c -f
 served 'untranslated' ours python-format '%d' '' -c
 served 'denied' ours 'python-format, no-python-format' '%d' '%s' -c
 served 'possible' 'GNU\t1\tpython-format' possible-python-format '%d' '%s' -c
-served 'with another language' 'GNU\t0\tperl-format' 'python-format, perl-format' '%d' '%d' -c
+served 'with another language' 'GNU\t0\tsmalltalk-format' 'python-format, smalltalk-format' '%d' '%d' -c
 served 'with a range' 'GNU\t0\tpython-format' 'python-format, range: 0..3' '%d' '%d' -c
 served 'an original that is none' ours python-format '100 %' '%d' -c
 

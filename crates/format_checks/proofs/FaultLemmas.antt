@@ -11,7 +11,8 @@ use Rattle.format_arguments.specs.declared.FormatFault.{FormatFault}
 use Rattle.format_arguments.specs.declared.FormatFault.TheVariants.{Invalid}
 use Rattle.format_arguments.specs.declared.Strictness.{Strictness}
 use Rattle.format_flags.specs.declared.languages.Language.TheVariants.{Python, PythonBrace, Shell, Qt, QtPlural, Kde}
-use Rattle.format_flags.specs.declared.languages.Language.TheVariants.{PerlBrace, Php, Ycp, ObjectiveC}
+use Rattle.format_flags.specs.declared.languages.Language.TheVariants.{JavaScript, Perl, PerlBrace, Php, Ycp}
+use Rattle.format_flags.specs.declared.languages.Language.TheVariants.{ObjectiveC}
 use Rattle.format_checks.specs.FormatLanguages.{Asked, Named, Numbered, Lists, HasFault, IsNoFormat}
 use Rattle.format_flags.specs.FormatFlags.{has}
 use Rattle.format_checks.specs.FlaggedEntries.{Entry, original, rule_for}
@@ -158,6 +159,14 @@ no_shell : (text : List ℕ) → HasFault Shell text Invalid → (asked : Asked)
 no_shell text none (Named asked) x = none asked x
 no_shell text none (Numbered asked) x = x
 
+no_javascript : (text : List ℕ) → HasFault JavaScript text Invalid → (asked : Asked) → Lists JavaScript text asked → ⊥
+no_javascript text none (Named asked) x = x
+no_javascript text none (Numbered asked) x = none asked x
+
+no_perl : (text : List ℕ) → HasFault Perl text Invalid → (asked : Asked) → Lists Perl text asked → ⊥
+no_perl text none (Named asked) x = x
+no_perl text none (Numbered asked) x = none asked x
+
 no_qt : (text : List ℕ) → HasFault Qt text Invalid → (asked : Asked) → Lists Qt text asked → ⊥
 no_qt text none (Named asked) x = x
 no_qt text none (Numbered asked) x = none asked x
@@ -182,10 +191,12 @@ pub no_format : (language : Language) (text : List ℕ) (fault : FormatFault) �
     → HasFault language text fault → IsNoFormat language text
 no_format Python text fault is has = no_python text (rw is at has)
 no_format PythonBrace text fault is has = no_brace text (rw is at has)
+no_format JavaScript text fault is has = no_javascript text (rw is at has)
 no_format Shell text fault is has = no_shell text (rw is at has)
 no_format Qt text fault is has = no_qt text (rw is at has)
 no_format QtPlural text fault is has = no_qt_plural text (rw is at has)
 no_format Kde text fault is has = no_kde text (rw is at has)
+no_format Perl text fault is has = no_perl text (rw is at has)
 no_format PerlBrace text fault is has = no_perl_brace text (rw is at has)
 no_format Php text fault is has = no_php text (rw is at has)
 no_format Ycp text fault is has = no_ycp text (rw is at has)

@@ -21,7 +21,7 @@ use Rattle.php_format.specs.PhpFormat as php_format
 use Rattle.php_format.proofs.PhpDirectiveLemmas as php_lemmas
 use Rattle.format_flags.specs.declared.languages.Language.{Language}
 use Rattle.format_flags.specs.declared.languages.Language.TheVariants.{Python, PythonBrace, Shell, Qt, QtPlural, Kde}
-use Rattle.format_flags.specs.declared.languages.Language.TheVariants.{PerlBrace, Php, Ycp}
+use Rattle.format_flags.specs.declared.languages.Language.TheVariants.{JavaScript, Perl, PerlBrace, Php, Ycp}
 use Rattle.named_formats.specs.declared.Notation.{Notation as Names}
 use Rattle.named_formats.specs.declared.Notation.TheVariants as names
 use Rattle.named_formats.specs.NameDirectives as name_directives
@@ -32,6 +32,12 @@ use Rattle.numbered_formats.specs.declared.Notation.TheVariants as numbers
 use Rattle.numbered_formats.specs.NumberDirectives as number_directives
 use Rattle.numbered_formats.specs.NumberFormat as numbered_formats
 use Rattle.numbered_formats.proofs.NumberDirectiveLemmas as number_lemmas
+use Rattle.script_formats.specs.declared.Notation.{Notation as Scripts}
+use Rattle.script_formats.specs.declared.Notation.TheVariants as scripts
+use Rattle.script_formats.specs.Collecting.{asks as script_asks}
+use Rattle.script_formats.specs.ScriptDirectives as script_directives
+use Rattle.script_formats.specs.ScriptFormat as script_formats
+use Rattle.script_formats.proofs.ScriptDirectiveLemmas as script_lemmas
 use Rattle.format_checks.specs.declared.Difference.{Difference}
 use Rattle.format_checks.specs.declared.Difference.TheVariants.{Invalid, Arguments}
 use Rattle.format_checks.specs.declared.Fault.{Fault}
@@ -52,6 +58,13 @@ one_numbered notation text a b x y = ap (λ (asked : List code_numbered.Numbered
     (one_list_of percent (number_directives.DirectiveAt notation) (number_lemmas.are_directives notation) requests_of
     (numbered_formats.fits notation) text a b x y)
 
+one_of_script : (notation : Scripts) (text : List ℕ) (a b : List code_numbered.Numbered)
+    → script_formats.HasSignature notation text a → script_formats.HasSignature notation text b
+    → Numbered a ≡ Numbered b
+one_of_script notation text a b x y = ap (λ (asked : List code_numbered.Numbered). Numbered asked)
+    (one_list_of script_directives.percent (script_directives.DirectiveAt notation)
+    (script_lemmas.are_directives notation) script_asks (script_formats.fits notation) text a b x y)
+
 one_arguments : (language : Language) (text : List ℕ) (a b : Asked) → Lists language text a
     → Lists language text b → a ≡ b
 one_arguments Python text (Named a) (Named b) x y = ap (λ (asked : List Argument). Named asked)
@@ -66,6 +79,12 @@ one_arguments Php text (Numbered a) (Numbered b) x y = ap (λ (asked : List code
     (one_list_of percent php.DirectiveAt php_lemmas.are_directives requests_of php_format.fits text a b x y)
 one_arguments Php text (Numbered a) (Named b) x y = absurd y
 one_arguments Php text (Named a) b x y = absurd x
+one_arguments JavaScript text (Numbered a) (Numbered b) x y = one_of_script scripts.JavaScript text a b x y
+one_arguments JavaScript text (Numbered a) (Named b) x y = absurd y
+one_arguments JavaScript text (Named a) b x y = absurd x
+one_arguments Perl text (Numbered a) (Numbered b) x y = one_of_script scripts.Perl text a b x y
+one_arguments Perl text (Numbered a) (Named b) x y = absurd y
+one_arguments Perl text (Named a) b x y = absurd x
 one_arguments Shell text (Named a) (Named b) x y = one_named names.Shell text a b x y
 one_arguments Shell text (Named a) (Numbered b) x y = absurd y
 one_arguments Shell text (Numbered a) b x y = absurd x

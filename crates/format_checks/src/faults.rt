@@ -89,10 +89,12 @@ fn add_language_faults(
 const CHECKED: &[Language] = &[
     Language::Python,
     Language::PythonBrace,
+    Language::JavaScript,
     Language::Shell,
     Language::Qt,
     Language::QtPlural,
     Language::Kde,
+    Language::Perl,
     Language::PerlBrace,
     Language::Php,
     Language::Ycp,

@@ -9,6 +9,7 @@ use format_flags::Language;
 use named_formats::Notation as Names;
 use numbered_arguments::Numbered;
 use numbered_formats::Notation as Numbers;
+use script_formats::Notation as Scripts;
 use std::alloc::{AllocError, Global};
 
 /// The arguments of a format, as its language has them.
@@ -28,6 +29,9 @@ fn signature(alloc: Global, language: Language, text: &[u8]) -> Result<Asked<'_>
     match language {
         Language::Python => Ok(Asked::Named(python_format::signature(alloc, text)?)),
         Language::PythonBrace => Ok(Asked::Named(python_brace_format::signature(alloc, text)?)),
+        Language::JavaScript => {
+            Ok(Asked::Numbered(script_formats::signature(alloc, Scripts::JavaScript, text)?))
+        }
         Language::Shell => {
             Ok(Asked::Named(named_formats::signature(alloc, Names::Shell, text)?))
         }
@@ -39,6 +43,9 @@ fn signature(alloc: Global, language: Language, text: &[u8]) -> Result<Asked<'_>
         }
         Language::Kde => {
             Ok(Asked::Numbered(numbered_formats::signature(alloc, Numbers::Kde, text)?))
+        }
+        Language::Perl => {
+            Ok(Asked::Numbered(script_formats::signature(alloc, Scripts::Perl, text)?))
         }
         Language::PerlBrace => {
             Ok(Asked::Named(named_formats::signature(alloc, Names::PerlBrace, text)?))

@@ -1,14 +1,39 @@
 -- Arguments that agree have one kind by each number.
-use Rattle.std.proofs.Common.{◌≡◌, ℕ, ◌==◌, Bool, true, List, [], ◌∷◌, Option, None, Some, refl, sym, ap, inl, inr}
+use Rattle.std.proofs.Common.{◌≡◌, ℕ, ◌==◌, true, List, [], ◌∷◌, Option, None, Some, refl, sym, ap, inl, inr}
 use Rattle.std.specs.Prelude.{◌⊎◌, Contains, if◌then◌else◌}
 use Rattle.std.specs.List.{fold}
 use Rattle.std.proofs.lemmas.Bool.{cases_Bool, and_parts, eqb-true}
 use Rattle.std.proofs.lemmas.List.Elements.{Contains-append_left, Contains-append_right, Contains-push}
-use Rattle.format_arguments.specs.declared.Kind.{Kind}
+use Rattle.numbered_arguments.specs.declared.Kind.{Kind}
 use Rattle.format_arguments.specs.declared.Strictness.TheVariants.{Same, Lenient}
-use Rattle.format_arguments.proofs.AgreementLemmas.{all_at, kind_is}
+use Rattle.format_arguments.proofs.AgreementLemmas.{all_at}
 use Rattle.numbered_arguments.specs.declared.Numbered.{Numbered}
-use Rattle.numbered_arguments.specs.NumberedArguments.{kind_at, is_kind, has, covered, agree}
+use Rattle.numbered_arguments.specs.NumberedArguments.{kind_at, is_kind, is_fit, has, has_fit, covered, agree}
+use Rattle.numbered_arguments.specs.NumberedKinds.{same_size, same_kind, kinds_fit}
+use Rattle.numbered_arguments.specs.declared.Size.{Size}
+use Rattle.numbered_arguments.specs.declared.Size.TheVariants.{Plain, Short, Long, LongLong, Native}
+use Rattle.numbered_arguments.specs.declared.Kind.TheVariants.{Any, Character, Text, Integer, Unsigned, Float, Vector}
+use Rattle.numbered_arguments.specs.declared.Kind.TheVariants.{Pointer, Count}
+
+size_is : (a b : Size) → same_size a b ≡ true → a ≡ b
+size_is Plain Plain h = refl
+size_is Short Short h = refl
+size_is Long Long h = refl
+size_is LongLong LongLong h = refl
+size_is Native Native h = refl
+size_is _ _ h = absurd (cc h)
+
+kind_is : (a b : Kind) → same_kind a b ≡ true → a ≡ b
+kind_is Any Any h = refl
+kind_is Character Character h = refl
+kind_is Text Text h = refl
+kind_is (Integer a) (Integer b) h = ap (λ (s : Size). Integer s) (size_is a b h)
+kind_is (Unsigned a) (Unsigned b) h = ap (λ (s : Size). Unsigned s) (size_is a b h)
+kind_is (Float a) (Float b) h = ap (λ (s : Size). Float s) (size_is a b h)
+kind_is Vector Vector h = refl
+kind_is Pointer Pointer h = refl
+kind_is (Count a) (Count b) h = ap (λ (s : Size). Count s) (size_is a b h)
+kind_is _ _ h = absurd (cc h)
 
 abbrev argument : ℕ → Kind → Numbered
 argument number kind = record { number = number; kind = kind }
@@ -59,6 +84,16 @@ same_strictly original translation h number =
     same_at (kind_at number original) (kind_at number translation) (kept original translation both.0 number)
     (kept translation original both.1 number)
 
+fitting : (found : Option Kind) (kind : Kind) → is_fit found kind ≡ true
+    → (other : Kind) × (found ≡ Some other) × (kinds_fit other kind ≡ true)
+fitting None kind h = absurd (cc h)
+fitting (Some other) kind h = (other, refl, h)
+
 pub same_leniently : (original translation : List Numbered) → agree original translation Lenient ≡ true
-    → (number : ℕ) (kind : Kind) → kind_at number translation ≡ Some kind → kind_at number original ≡ Some kind
-same_leniently original translation h = kept translation original h
+    → (number : ℕ) (kind : Kind) → kind_at number translation ≡ Some kind
+    → (other : Kind) × (kind_at number original ≡ Some other) × (kinds_fit other kind ≡ true)
+same_leniently original translation h number kind e = elim (found_at number kind None translation e) [
+  | inl none ↦ absurd (cc none)
+  | inr there ↦ fitting (kind_at number original) kind
+      (all_at (λ (a : Numbered). has_fit original a) translation (argument number kind) h there)
+]

@@ -1,15 +1,16 @@
 -- Requests with their numbers, and arguments found by number.
 use Rattle.std.proofs.Common.{◌≡◌, ℕ, Bool, List, [], ◌∷◌, ◌++◌, Option, refl, sym, ap, ◌∙◌}
 use Rattle.std.specs.List.{list_all}
-use Rattle.format_arguments.specs.declared.Kind.{Kind}
+use Rattle.numbered_arguments.specs.declared.Kind.{Kind}
 use Rattle.numbered_arguments.specs.declared.Numbered.{Numbered}
 use Rattle.numbered_arguments.specs.declared.Request.{Request}
 use Rattle.numbered_arguments.specs.declared.numbering.Numbering.{Numbering}
 use Rattle.numbered_arguments.specs.declared.index.Index.{Index}
 use Rattle.numbered_arguments.specs.NumberedArguments.{numbered, numbered_from, number_or, next_after, is_kind, has}
+use Rattle.numbered_arguments.specs.NumberedArguments.{is_fit, has_fit, fits_in}
 use Rattle.numbered_arguments.specs.NumberedArguments.{covered}
 use Rattle.numbered_arguments.specs.NumberingStates.{next_behind, HasNumbered}
-use Rattle.numbered_arguments.specs.NumberedIndex.{IsIndexOf, has_in}
+use Rattle.numbered_arguments.specs.NumberedIndex.{IsIndexOf, has_in, fits_by}
 
 abbrev argument : ℕ → Kind → Numbered
 argument number kind = record { number = number; kind = kind }
@@ -48,3 +49,8 @@ pub covered_is : (index : Index) (ones asked : List Numbered) → IsIndexOf inde
     → list_all (has_in index) ones ≡ covered ones asked
 covered_is index ones asked is = all_same (has_in index) (has asked)
     (λ a. ap (λ (found : Option Kind). is_kind found a.kind) (is a.number)) ones
+
+pub fits_is : (index : Index) (ones asked : List Numbered) → IsIndexOf index asked
+    → list_all (fits_by index) ones ≡ fits_in ones asked
+fits_is index ones asked is = all_same (fits_by index) (has_fit asked)
+    (λ a. ap (λ (found : Option Kind). is_fit found a.kind) (is a.number)) ones

@@ -1,6 +1,5 @@
 -- Texts whose directives ask for arguments by number.
 use Rattle.std.proofs.Common.{◌≡◌, ℕ, Bool, true, false, List, [], ◌∷◌, ◌++◌, refl, sym, subst, ap, ◌∙◌}
-use Rattle.std.specs.List.{flat_map}
 use Rattle.format_arguments.specs.Text.{SkipsPlain, AreDirectives}
 use Rattle.format_arguments.proofs.TextLemmas.{HasRead, read_nothing, reads_on, no_format, read_all, asked_by_all}
 use Rattle.format_arguments.proofs.TextLemmas.{one_asked}

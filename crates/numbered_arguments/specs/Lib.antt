@@ -1,3 +1,4 @@
+pub mod NumberedKinds
 pub mod NumberedArguments
 pub mod NumberedText
 pub mod NumberingStates

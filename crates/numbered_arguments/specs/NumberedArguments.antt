@@ -4,12 +4,12 @@ use Rattle.std.specs.Prelude.{◌%◌}
 use Rattle.std.specs.List.{fold, list_all}
 use Rattle.std.specs.Option.{unwrap_or}
 use Rattle.byte_text.specs.Decimal.{decimal_value}
-use Rattle.format_arguments.specs.declared.Kind.{Kind}
 use Rattle.format_arguments.specs.declared.Strictness.{Strictness}
 use Rattle.format_arguments.specs.declared.Strictness.TheVariants.{Same, Lenient}
-use Rattle.format_arguments.specs.Arguments.{same_kind}
+use Rattle.numbered_arguments.specs.declared.Kind.{Kind}
 use Rattle.numbered_arguments.specs.declared.Numbered.{Numbered}
 use Rattle.numbered_arguments.specs.declared.Request.{Request}
+use Rattle.numbered_arguments.specs.NumberedKinds.{same_kind, kinds_fit}
 
 -- ---- numbers
 
@@ -64,7 +64,20 @@ is_consistent asked = covered asked asked
 
 -- ---- the arguments of two formats
 
--- the numbers and their kinds are the same; leniently, the translation leaves some out
+abbrev pub is_fit : Option Kind → Kind → Bool
+is_fit None kind = false
+is_fit (Some found) kind = kinds_fit found kind
+
+-- the argument is asked for, of a kind that one object can be too
+abbrev pub has_fit : List Numbered → Numbered → Bool
+has_fit asked a = is_fit (kind_at a.number asked) a.kind
+
+-- each of the ones is asked for by the others too, and one object can be what both ask for
+abbrev pub fits_in : List Numbered → List Numbered → Bool
+fits_in ones others = list_all (has_fit others) ones
+
+-- the numbers and their kinds are the same; leniently, the translation leaves some out, and one object can be what both
+-- ask for by a number
 abbrev pub agree : List Numbered → List Numbered → Strictness → Bool
 agree original translation Same = covered original translation && covered translation original
-agree original translation Lenient = covered translation original
+agree original translation Lenient = fits_in translation original

@@ -1,9 +1,9 @@
 //! The kinds of arguments by number, so that each is found in logarithmic time.
 ghost use Rattle.std.specs.Prelude.{◌≡◌, IfOk};
-ghost use Rattle.numbered_arguments.specs.NumberedIndex.{IsIndexOf, has_in};
+ghost use Rattle.numbered_arguments.specs.NumberedIndex.{IsIndexOf, fits_by, has_in};
 
-use crate::Numbered;
-use format_arguments::{Kind, same_kind};
+use crate::kinds::{kinds_fit, same_kind};
+use crate::{Kind, Numbered};
 use std::alloc::{AllocError, Global};
 use std::collections::BTreeMap;
 
@@ -30,6 +30,16 @@ impl Index {
     {
         match self.kinds.get(&argument.number) {
             Some(kind) => same_kind(*kind, argument.kind),
+            None => false,
+        }
+    }
+
+    /// Whether one object can be of the kind by the argument's number, and of the argument's.
+    pub(crate) fn fits(&self, argument: Numbered) -> bool
+        ensures { result ≡ fits_by self.now argument }
+    {
+        match self.kinds.get(&argument.number) {
+            Some(kind) => kinds_fit(*kind, argument.kind),
             None => false,
         }
     }

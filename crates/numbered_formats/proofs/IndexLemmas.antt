@@ -5,14 +5,14 @@ use Rattle.std.proofs.Common.{◌∙◌, subst, arith, inl, inr}
 use Rattle.std.specs.Prelude.{◌&&◌, ◌||◌, not, if◌then◌else◌, ◌==◌}
 use Rattle.std.specs.List.{list_all, find}
 use Rattle.std.proofs.Math.Nat.{eq-or-lt_of_le}
-use Rattle.format_arguments.specs.declared.Kind.{Kind}
+use Rattle.numbered_arguments.specs.declared.Kind.{Kind}
 use Rattle.numbered_arguments.specs.declared.Numbered.{Numbered}
 use Rattle.numbered_arguments.specs.declared.index.Index.{Index}
 use Rattle.numbered_arguments.specs.NumberedArguments.{has, covered, is_kind}
 use Rattle.numbered_arguments.specs.NumberedIndex.{IsIndexOf, has_in}
 use Rattle.numbered_formats.specs.NumberGaps.{any, left_out, leaves_out_one, leaves_out_one_in, largest}
 use Rattle.numbered_formats.specs.NumberAgreement.{one_missing, misses_one, misses_one_in, kde_leniently, qt}
-use Rattle.format_arguments.specs.declared.Kind.TheVariants.{Any, Text}
+use Rattle.numbered_arguments.specs.declared.Kind.TheVariants.{Any, Text}
 use Rattle.numbered_formats.specs.NumberAgreement.{kde_by, qt_by, of_kind, is_number_there, numbers_covered}
 use Rattle.numbered_formats.specs.NumberAgreement.{numbers_in, all_in}
 

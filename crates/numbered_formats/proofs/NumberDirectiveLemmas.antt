@@ -7,9 +7,10 @@ use Rattle.std.proofs.lemmas.Bool.{cases_Bool}
 use Rattle.std.proofs.lemmas.List.{length-drop}
 use Rattle.format_arguments.specs.Bytes.{behind, run}
 use Rattle.format_arguments.specs.Text.{AreDirectives}
-use Rattle.format_arguments.specs.declared.Kind.{Kind}
-use Rattle.format_arguments.specs.declared.Kind.TheVariants.{Any, Integer}
+use Rattle.numbered_arguments.specs.declared.Kind.{Kind}
+use Rattle.numbered_arguments.specs.declared.Kind.TheVariants.{Any, Integer}
 use Rattle.numbered_arguments.specs.NumberedArguments.{number_of}
+use Rattle.numbered_arguments.specs.declared.Size.TheVariants.{Plain}
 use Rattle.numbered_arguments.specs.declared.Request.{Request}
 use Rattle.numbered_formats.specs.declared.Notation.{Notation}
 use Rattle.numbered_formats.specs.declared.Notation.TheVariants.{Qt, QtPlural, Kde, Ycp}
@@ -57,7 +58,7 @@ some_rest p q e =
 n_within : (text : List ℕ) → Within text (n text)
 n_within [] r rest e = absurd (cc e)
 n_within (b ∷ more) r rest e = elim (cases_Bool (b == 110)) [
-  | inl is ↦ omega (arith, some_rest (numbered 1 Integer, more) (r, rest) (rw is at e))
+  | inl is ↦ omega (arith, some_rest (numbered 1 (Integer Plain), more) (r, rest) (rw is at e))
   | inr other ↦ absurd (cc (rw other at e))
 ]
 

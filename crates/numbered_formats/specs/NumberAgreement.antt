@@ -1,11 +1,11 @@
 -- When the arguments of two formats agree, as GNU gettext has it.
 use Rattle.std.specs.Prelude.{ℕ, Bool, true, not, ◌&&◌, ◌||◌, ◌==◌, List, Option, None, Some}
 use Rattle.std.specs.List.{list_all, find}
-use Rattle.format_arguments.specs.declared.Kind.{Kind}
-use Rattle.format_arguments.specs.declared.Kind.TheVariants.{Any, Text}
+use Rattle.numbered_arguments.specs.declared.Kind.{Kind}
+use Rattle.numbered_arguments.specs.declared.Kind.TheVariants.{Any, Text}
 use Rattle.format_arguments.specs.declared.Strictness.{Strictness}
 use Rattle.format_arguments.specs.declared.Strictness.TheVariants.{Same, Lenient}
-use Rattle.format_arguments.specs.Arguments.{same_kind}
+use Rattle.numbered_arguments.specs.NumberedKinds.{same_kind}
 use Rattle.numbered_arguments.specs.declared.Numbered.{Numbered}
 use Rattle.numbered_arguments.specs.declared.index.Index.{Index}
 use Rattle.numbered_arguments.specs.NumberedArguments as arguments

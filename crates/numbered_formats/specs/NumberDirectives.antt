@@ -5,8 +5,9 @@ use Rattle.std.specs.Prelude.{◌≡◌, ℕ, ◌+◌, ◌-◌, ◌*◌, Bool, n
 use Rattle.std.specs.Prelude.{None, Some}
 use Rattle.std.specs.Char.{is_ascii_digit}
 use Rattle.format_arguments.specs.Bytes.{run, behind}
-use Rattle.format_arguments.specs.declared.Kind.{Kind}
-use Rattle.format_arguments.specs.declared.Kind.TheVariants.{Any, Text, Integer}
+use Rattle.numbered_arguments.specs.declared.Kind.{Kind}
+use Rattle.numbered_arguments.specs.declared.Kind.TheVariants.{Any, Text, Integer}
+use Rattle.numbered_arguments.specs.declared.Size.TheVariants.{Plain}
 use Rattle.numbered_arguments.specs.declared.Request.{Request}
 use Rattle.numbered_arguments.specs.NumberedArguments.{number_of}
 use Rattle.numbered_formats.specs.declared.Notation.{Notation}
@@ -44,7 +45,7 @@ qt (b ∷ more) = if b == 76 then places Any more else places Text (b ∷ more)
 
 abbrev pub n : List ℕ → Option (Request × List ℕ)
 n [] = None
-n (b ∷ more) = if b == 110 then Some (numbered 1 Integer, more) else None
+n (b ∷ more) = if b == 110 then Some (numbered 1 (Integer Plain), more) else None
 
 -- `n`, maybe behind an `L`
 abbrev pub qt_plural : List ℕ → Option (Request × List ℕ)

@@ -1,7 +1,7 @@
 -- Which arguments one format may ask for (GNU gettext manual, "KDE Format Strings").
 use Rattle.std.specs.Prelude.{ℕ, zero, suc, ◌+◌, nat_lt, Bool, true, if◌then◌else◌, List}
 use Rattle.std.specs.List.{fold}
-use Rattle.format_arguments.specs.declared.Kind.TheVariants.{Any}
+use Rattle.numbered_arguments.specs.declared.Kind.TheVariants.{Any}
 use Rattle.numbered_arguments.specs.declared.Numbered.{Numbered}
 use Rattle.numbered_arguments.specs.declared.index.Index.{Index}
 use Rattle.numbered_arguments.specs.NumberedArguments.{has}

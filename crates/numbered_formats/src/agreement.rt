@@ -3,8 +3,8 @@ ghost use Rattle.std.specs.Prelude.{◌≡◌, IfOk, option_map};
 ghost use Rattle.numbered_formats.specs.NumberAgreement as spec;
 
 use crate::Notation;
-use format_arguments::{Kind, Strictness, same_kind};
-use numbered_arguments::{Index, Numbered};
+use format_arguments::Strictness;
+use numbered_arguments::{Index, Kind, Numbered, same_kind};
 use std::alloc::{AllocError, Global};
 
 /// The first that isn't among the others.

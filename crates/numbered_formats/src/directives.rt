@@ -5,8 +5,7 @@ ghost use Rattle.numbered_formats.specs.NumberDirectives as spec;
 
 use crate::Notation;
 use byte_text::split_byte;
-use format_arguments::Kind;
-use numbered_arguments::{Request, number_of, split_digits};
+use numbered_arguments::{Kind, Request, Size, number_of, split_digits};
 
 /// The argument of this number.
 fn numbered(number: u32, kind: Kind) -> Request
@@ -70,7 +69,7 @@ fn read_n(text: &[u8]) -> Option<(Request, &[u8])>
     ensures { option_map (λ found. (found.0, found.1.now)) result ≡ spec.n text.now }
 {
     match split_byte(text) {
-        Some((b'n', rest)) => Some((numbered(1, Kind::Integer), rest)),
+        Some((b'n', rest)) => Some((numbered(1, Kind::Integer(Size::Plain)), rest)),
         _ => None,
     }
 }

@@ -3,8 +3,7 @@ ghost use Rattle.std.specs.Prelude.{◌≡◌, IfOk};
 ghost use Rattle.numbered_formats.specs.NumberGaps as spec;
 
 use crate::Notation;
-use format_arguments::Kind;
-use numbered_arguments::{Index, Numbered};
+use numbered_arguments::{Index, Kind, Numbered};
 use std::alloc::{AllocError, Global};
 
 /// The largest number of these, or 0.

@@ -10,7 +10,7 @@ mod gaps;
 
 pub use agreement::agrees;
 pub use format::{one_signature, signature};
-pub use numbered_arguments::{FormatFault, Kind, Numbered, Strictness};
+pub use numbered_arguments::{FormatFault, Kind, Numbered, Size, Strictness};
 
 /// Whose directives a text has.
 #[derive(Clone, Copy, Debug, PartialEq, Eq)]

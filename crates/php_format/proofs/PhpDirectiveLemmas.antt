@@ -3,7 +3,7 @@ use Rattle.std.proofs.Common.{◌≡◌, ℕ, zero, ◌<◌, List, [], ◌∷◌
 use Rattle.std.proofs.Common.{arith}
 use Rattle.format_arguments.specs.Bytes.{BeginsNot}
 use Rattle.format_arguments.specs.Text.{AreDirectives}
-use Rattle.format_arguments.specs.declared.Kind.{Kind}
+use Rattle.numbered_arguments.specs.declared.Kind.{Kind}
 use Rattle.numbered_arguments.specs.declared.Request.{Request}
 use Rattle.php_format.specs.PhpPieces.{percent, NumberAt, FlagsAt, kind_of}
 use Rattle.php_format.specs.PhpDirectives.{RequestAt, DirectiveAt, behind_size_of}

@@ -6,8 +6,9 @@ use Rattle.std.specs.List.{list_any}
 use Rattle.std.specs.Option.{unwrap_or}
 use Rattle.std.specs.Char.{is_ascii_digit}
 use Rattle.format_arguments.specs.Bytes.{run, behind, behind_one, BeginsNot}
-use Rattle.format_arguments.specs.declared.Kind.{Kind}
-use Rattle.format_arguments.specs.declared.Kind.TheVariants.{Character, Text, Integer, Float}
+use Rattle.numbered_arguments.specs.declared.Kind.{Kind}
+use Rattle.numbered_arguments.specs.declared.Kind.TheVariants.{Character, Text, Integer, Float}
+use Rattle.numbered_arguments.specs.declared.Size.TheVariants.{Plain}
 use Rattle.numbered_arguments.specs.NumberedArguments.{number_of}
 
 -- ---- the special characters of formats
@@ -78,8 +79,8 @@ behind_size text = behind_one is_size text
 
 abbrev pub kind_of : ℕ → Option Kind
 kind_of conversion =
-    if list_any (λ letter. conversion == letter) (codes "bduoxX") then Some Integer
-    else if list_any (λ letter. conversion == letter) (codes "ef") then Some Float
+    if list_any (λ letter. conversion == letter) (codes "bduoxX") then Some (Integer Plain)
+    else if list_any (λ letter. conversion == letter) (codes "ef") then Some (Float Plain)
     else if conversion == 115 then Some Text
     else if conversion == 99 then Some Character
     else None

@@ -6,4 +6,4 @@ mod format;
 mod parts;
 
 pub use format::{one_signature, signature};
-pub use numbered_arguments::{FormatFault, Kind, Numbered, Strictness, agrees};
+pub use numbered_arguments::{FormatFault, Kind, Numbered, Size, Strictness, agrees};

@@ -4,8 +4,8 @@ ghost use Rattle.std.specs.Prelude.{◌≡◌, ℕ, List, Option, MatchOption, o
 ghost use Rattle.php_format.specs.PhpPieces as spec;
 
 use byte_text::split_byte;
-use format_arguments::{Kind, after_byte};
-use numbered_arguments::{number_of, split_digits};
+use format_arguments::after_byte;
+use numbered_arguments::{Kind, Size, number_of, split_digits};
 
 /// Reads `m$`, an argument number, which may be left out. None: the number is 0.
 pub(crate) fn read_number(text: &[u8]) -> Option<(Option<u32>, &[u8])>
@@ -98,8 +98,8 @@ pub(crate) fn kind_of(conversion: u8) -> Option<Kind>
     ensures { result ≡ spec.kind_of conversion }
 {
     match conversion {
-        b'b' | b'd' | b'u' | b'o' | b'x' | b'X' => Some(Kind::Integer),
-        b'e' | b'f' => Some(Kind::Float),
+        b'b' | b'd' | b'u' | b'o' | b'x' | b'X' => Some(Kind::Integer(Size::Plain)),
+        b'e' | b'f' => Some(Kind::Float(Size::Plain)),
         b's' => Some(Kind::Text),
         b'c' => Some(Kind::Character),
         _ => None,

@@ -1,6 +1,6 @@
 //! Tests of `php_format` and `numbered_arguments`: each call once, what GNU msgfmt 0.21 says of formats and of pairs of
 //! formats, and long formats.
-use php_format::{FormatFault, Kind, Numbered, Strictness, agrees, one_signature, signature};
+use php_format::{FormatFault, Kind, Numbered, Size, Strictness, agrees, one_signature, signature};
 use std::test::Fail;
 
 /// Formats by which GNU msgfmt 0.21 compiles an entry, each with how many arguments its directives ask for.
@@ -138,11 +138,11 @@ fn numbers_php_arguments(rt: HostRuntime) {
             },
             Numbered {
                 number: 3,
-                kind: Kind::Integer,
+                kind: Kind::Integer(Size::Plain),
             },
             Numbered {
                 number: 2,
-                kind: Kind::Float,
+                kind: Kind::Float(Size::Plain),
             },
         ]),
         Err(_) => false,

@@ -1,6 +1,6 @@
 use Rattle.std.proofs.Common.{sym, ap, ◌∙◌, arith}
 use Rattle.std.proofs.lemmas.Grind.{common_steps}
-use Rattle.format_arguments.specs.declared.Kind.TheVariants.{Any}
+use Rattle.numbered_arguments.specs.declared.Kind.TheVariants.{Any}
 use Rattle.numbered_arguments.specs.declared.Numbered.{Numbered}
 use Rattle.std.specs.List.{list_all}
 use Rattle.std.proofs.lemmas.List.{take_all}

@@ -3,8 +3,7 @@ use Rattle.std.specs.Prelude.{if◌then◌else◌, ◌==◌}
 use Rattle.std.proofs.lemmas.Grind.{common_steps}
 use Rattle.std.proofs.lemmas.List.Sums.{fold_more}
 use Rattle.numbered_arguments.specs.declared.Numbered.{Numbered}
-use Rattle.format_arguments.specs.declared.Kind.{Kind}
-use Rattle.format_arguments.specs.declared.Kind.TheVariants.{Any}
+use Rattle.numbered_arguments.specs.declared.Kind.TheVariants.{Any}
 use Rattle.numbered_arguments.proofs.index.Index.of.Goals as goal
 
 pub asked-preserved : goal.asked-preserved

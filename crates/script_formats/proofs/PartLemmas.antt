@@ -1,0 +1,34 @@
+-- What follows a part of a directive is no longer than the text.
+use Rattle.std.proofs.Common.{◌≡◌, ℕ, ◌≤◌, Bool, List, [], ◌∷◌, length, Option, Some, ap, arith, inl, inr, ◌==◌}
+use Rattle.std.specs.List.{prefix_len}
+use Rattle.std.specs.Char.{is_ascii_digit}
+use Rattle.std.proofs.lemmas.Bool.{cases_Bool}
+use Rattle.std.proofs.lemmas.List.{length-drop}
+use Rattle.format_arguments.specs.Bytes.{run, behind}
+use Rattle.numbered_arguments.specs.NumberedArguments.{number_of}
+use Rattle.script_formats.specs.ScriptParts.{dollar, dollar_at, number_at}
+
+abbrev pub Within : (A : Type 0) → List ℕ → Option (A × List ℕ) → Type 0
+Within A text found = (p : A × List ℕ) → found ≡ Some p → length p.1 ≤ length text
+
+pub some_is : (A : Type 0) (p q : A × List ℕ) (n : ℕ) → Some p ≡ Some q → length p.1 ≤ n → length q.1 ≤ n
+some_is A p q n e le =
+    let same : p ≡ q = cc e in
+    omega (arith, le, ap (λ (x : A × List ℕ). length x.1) same)
+
+pub behind_within : (test : ℕ → Bool) (text : List ℕ) → length (behind test text) ≤ length text
+behind_within test text = omega (arith, length-drop (prefix_len test text) text)
+
+dollar_within : (number : ℕ) (text : List ℕ) → Within ℕ text (dollar_at number text)
+dollar_within number [] p e = absurd (cc e)
+dollar_within number (b ∷ more) p e = elim (cases_Bool (b == dollar)) [
+  | inl is ↦ some_is ℕ (number, more) p (length (b ∷ more)) (rw is at e) (omega arith)
+  | inr other ↦ absurd (cc (rw other at e))
+]
+
+pub number_within : (text : List ℕ) → Within ℕ text (number_at text)
+number_within text p e = omega (
+  arith,
+  behind_within is_ascii_digit text,
+  dollar_within (number_of (run is_ascii_digit text)) (behind is_ascii_digit text) p e,
+)

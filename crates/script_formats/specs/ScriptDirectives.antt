@@ -1,0 +1,25 @@
+-- Directives of each language.
+use Rattle.std.specs.Prelude.{◌≡◌, ℕ, List, ◌∷◌, Option, Some}
+use Rattle.numbered_arguments.specs.declared.Kind.{Kind}
+use Rattle.numbered_arguments.specs.declared.Request.{Request}
+use Rattle.script_formats.specs.declared.Notation.{Notation}
+use Rattle.script_formats.specs.declared.Notation.TheVariants.{Perl, JavaScript}
+use Rattle.script_formats.specs.declared.directive.Directive.{Directive}
+use Rattle.script_formats.specs.ScriptParts as parts
+use Rattle.script_formats.specs.PerlDirectives as perl
+use Rattle.script_formats.specs.JavaScriptDirectives as javascript
+
+abbrev pub percent : ℕ
+percent = 37
+
+abbrev pub argument : Option ℕ → Option Kind → Option Request
+argument number kind = parts.argument number kind
+
+abbrev pub directive : Notation → List ℕ → Option (Directive × List ℕ)
+directive Perl text = perl.directive text
+directive JavaScript text = javascript.directive text
+
+-- text is a `%` and this directive, followed by rest
+abbrev pub DirectiveAt : Notation → Directive → List ℕ → List ℕ → Type 0
+DirectiveAt notation d text rest =
+    (inner : List ℕ) × (text ≡ percent ∷ inner) × (directive notation inner ≡ Some (d, rest))

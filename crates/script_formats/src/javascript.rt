@@ -1,0 +1,95 @@
+//! Directives of JavaScript's formats, read part by part. Each reader takes the text from where its part may begin,
+//! and returns the part and the rest.
+ghost use Rattle.std.specs.Prelude.{◌≡◌, option_map};
+ghost use Rattle.std.specs.List.{prefix_len};
+ghost use Rattle.format_arguments.specs.Bytes.{behind};
+ghost use Rattle.script_formats.specs.JavaScriptDirectives as spec;
+
+use crate::directive::{Directive, argument};
+use crate::parts::read_number;
+use byte_text::split_byte;
+use numbered_arguments::{Kind, Size, skip_digits};
+
+/// Reads `m$`, which may be left out. None: m is 0.
+fn read_place(text: &[u8]) -> Option<(Option<u32>, &[u8])>
+    ensures { option_map (λ found. (found.0, found.1.now)) result ≡ spec.place text.now }
+{
+    match read_number(text) {
+        Some((0, _)) => None,
+        Some((number, rest)) => Some((Some(number), rest)),
+        None => Some((None, text)),
+    }
+}
+
+fn flags_len(text: &[u8]) -> usize
+    ensures { result ≡ prefix_len spec.is_flag text.now }
+{
+    text.iter()
+        .take_while(|byte| matches!(byte, b'-' | b'+' | b' ' | b'0' | b'I'))
+        .count()
+}
+
+fn skip_flags(text: &[u8]) -> &[u8]
+    ensures { result.now ≡ behind spec.is_flag text.now }
+{
+    let (_, rest) = text.split_at(flags_len(text));
+    rest
+}
+
+/// Skips a dot and digits, or nothing.
+fn skip_precision(text: &[u8]) -> &[u8]
+    ensures { result.now ≡ spec.behind_precision text.now }
+{
+    match split_byte(text) {
+        Some((b'.', rest)) => skip_digits(rest),
+        _ => text,
+    }
+}
+
+/// What a conversion asks for, if there is such a conversion.
+fn asked_by(conversion: u8) -> Option<Option<Kind>>
+    ensures { result ≡ spec.asked_by conversion }
+{
+    match conversion {
+        b'%' => Some(None),
+        b'c' => Some(Some(Kind::Character)),
+        b's' => Some(Some(Kind::Text)),
+        b'b' | b'd' | b'o' | b'x' | b'X' => Some(Some(Kind::Integer(Size::Plain))),
+        b'f' => Some(Some(Kind::Float(Size::Plain))),
+        b'j' => Some(Some(Kind::Any)),
+        _ => None,
+    }
+}
+
+/// Reads what stands behind the number.
+fn read_back(number: Option<u32>, text: &[u8]) -> Option<(Directive, &[u8])>
+    ensures { option_map (λ found. (found.0, found.1.now)) result ≡ spec.back number text.now }
+{
+    let behind_precision = skip_precision(skip_digits(skip_flags(text)));
+    match split_byte(behind_precision) {
+        Some((conversion, rest)) => match asked_by(conversion) {
+            Some(kind) => Some((
+                Directive {
+                    separator: None,
+                    vector: None,
+                    width: None,
+                    precision: None,
+                    argument: argument(number, kind),
+                },
+                rest,
+            )),
+            None => None,
+        },
+        None => None,
+    }
+}
+
+/// Reads a directive, from after its `%`.
+pub(crate) fn read(text: &[u8]) -> Option<(Directive, &[u8])>
+    ensures { option_map (λ found. (found.0, found.1.now)) result ≡ spec.directive text.now }
+{
+    match read_place(text) {
+        Some((number, rest)) => read_back(number, rest),
+        None => None,
+    }
+}

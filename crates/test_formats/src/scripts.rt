@@ -1,0 +1,122 @@
+//! Tests of `script_formats`: each call once, and what GNU msgfmt 0.21 says of formats and of pairs of formats.
+use script_formats::{FormatFault, Notation, Strictness, agrees, one_signature, signature};
+
+/// Formats by which GNU msgfmt 0.21 compiles an entry, each with how many arguments its directives ask for.
+const VALID: &[(Notation, &str, usize)] = &[
+    (Notation::Perl, "100%% %5% %-h%", 0),
+    (Notation::Perl, "%s %5$s %_ %p %c", 5),
+    (Notation::Perl, "%d %hi %ld %qd %lld %Ld %Vd %D", 8),
+    (Notation::Perl, "%u %bz %O %lX %hn %Vg %Lf %.3e", 8),
+    (Notation::Perl, "%*d %-05.*f", 4),
+    (Notation::Perl, "%vd %*vX %*4$vd", 5),
+    (Notation::Perl, "%2$*1$.*3$d %*%", 4),
+    (Notation::Perl, "%4294967296$s %4294967297$s", 2),
+    (Notation::JavaScript, "%% %5% %1$-.%", 0),
+    (Notation::JavaScript, "%s %d %j %c %f %x", 6),
+    (Notation::JavaScript, "%2$-05.3f %1$Is %01$s", 3),
+    (Notation::JavaScript, "%4294967297$s %1$.s", 2),
+    (Notation::JavaScript, "%1$j %3$j %%", 2),
+];
+
+/// Texts of which it says that they are "not a valid Perl format string" or "JavaScript format string".
+const INVALID: &[(Notation, &str)] = &[
+    (Notation::Perl, "%"),
+    (Notation::Perl, "%0$s"),
+    (Notation::Perl, "%01$s"),
+    (Notation::Perl, "%hhd"),
+    (Notation::Perl, "%lf"),
+    (Notation::Perl, "%he"),
+    (Notation::Perl, "%a"),
+    (Notation::Perl, "%v05d"),
+    (Notation::Perl, "%*0$d"),
+    (Notation::Perl, "%s %1$d"),
+    (Notation::Perl, "%l"),
+    (Notation::Perl, "%y"),
+    (Notation::JavaScript, "%"),
+    (Notation::JavaScript, "%0$s"),
+    (Notation::JavaScript, "%4294967296$s"),
+    (Notation::JavaScript, "%i"),
+    (Notation::JavaScript, "%'5s"),
+    (Notation::JavaScript, "%#x"),
+    (Notation::JavaScript, "%*d"),
+    (Notation::JavaScript, "%ld"),
+    (Notation::JavaScript, "%s %1$s"),
+    (Notation::JavaScript, "%1$j %1$s"),
+    (Notation::JavaScript, "%."),
+];
+
+/// An original, a translation, and whether GNU msgfmt 0.21 accepts them: without a plural, and as the first of two
+/// forms that serves few numbers.
+const PAIRS: &[(Notation, &str, &str, bool, bool)] = &[
+    (Notation::Perl, "%s %d", "%2$d %1$s %s", true, true),
+    (Notation::Perl, "%s %d", "%s", false, true),
+    (Notation::Perl, "%s", "%s %d", false, false),
+    (Notation::Perl, "%ld", "%d", false, false),
+    (Notation::Perl, "%d", "%u", false, false),
+    (Notation::Perl, "%D %U", "%Vd %Vx", true, true),
+    (Notation::Perl, "%qd", "%lld", true, true),
+    (Notation::Perl, "%vd", "%_", true, true),
+    (Notation::Perl, "%*d", "%d", false, true),
+    (Notation::Perl, "%*d", "%2$*1$i", true, true),
+    (Notation::Perl, "%s", "%p", false, false),
+    (Notation::JavaScript, "%s %d", "%2$x %1$s", true, true),
+    (Notation::JavaScript, "%s %d", "%s", false, true),
+    (Notation::JavaScript, "%s", "%s %%", true, true),
+    (Notation::JavaScript, "%s", "%s %s", false, false),
+    (Notation::JavaScript, "%s", "%j", false, true),
+    (Notation::JavaScript, "%j", "%f", false, true),
+    (Notation::JavaScript, "%c", "%s", false, false),
+    (Notation::JavaScript, "%1$s %2$j", "%2$j", false, true),
+];
+
+fn count(rt: &HostRuntime, notation: Notation, text: &str) -> Option<usize> {
+    match signature(rt.alloc(), notation, text.as_bytes()) {
+        Ok(asked) => Some(asked.len()),
+        Err(FormatFault::Invalid) => None,
+        Err(FormatFault::Memory) => Some(usize::MAX),
+    }
+}
+
+fn accepted(
+    rt: &HostRuntime,
+    notation: Notation,
+    original: &str,
+    translation: &str,
+    rule: Strictness,
+) -> Option<bool> {
+    let Ok(original) = signature(rt.alloc(), notation, original.as_bytes()) else {
+        return None
+    };
+    let Ok(translation) = signature(rt.alloc(), notation, translation.as_bytes()) else {
+        return None
+    };
+    match agrees(rt.alloc(), &original, &translation, rule) {
+        Ok(agree) => Some(agree),
+        Err(_) => None,
+    }
+}
+
+#[test]
+fn reads_script_formats(rt: HostRuntime) {
+    for (notation, text, asked) in VALID {
+        assert_eq!(rt; count(&rt, *notation, text), Some(*asked));
+    }
+    for (notation, text) in INVALID {
+        assert_eq!(rt; count(&rt, *notation, text), None);
+    }
+    one_signature();
+}
+
+#[test]
+fn compares_script_formats(rt: HostRuntime) {
+    for (notation, original, translation, same, lenient) in PAIRS {
+        assert_eq!(rt;
+            accepted(&rt, *notation, original, translation, Strictness::Same),
+            Some(*same)
+        );
+        assert_eq!(rt;
+            accepted(&rt, *notation, original, translation, Strictness::Lenient),
+            Some(*lenient)
+        );
+    }
+}
