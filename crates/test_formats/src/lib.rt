@@ -8,6 +8,8 @@ mod brace;
 #[cfg(test)]
 mod checks;
 #[cfg(test)]
+mod macros;
+#[cfg(test)]
 mod named;
 #[cfg(test)]
 mod numbered;
@@ -15,5 +17,7 @@ mod numbered;
 mod php;
 #[cfg(test)]
 mod python;
+#[cfg(test)]
+mod scripts;
 #[cfg(test)]
 mod texts;

@@ -1,0 +1,8 @@
+pub mod DigitLemmas
+pub mod MacroLemmas
+pub mod MacroDirectiveLemmas
+pub mod ListLemmas
+pub mod ReaderLemmas
+pub mod SplitLemmas
+pub mod FormatLemmas
+pub mod ReadingLemmas
