@@ -1,5 +1,5 @@
-//! Tests of `mo_file` and `mo_revisions` through their public functions: worked files, files whose strings overlap,
-//! look-ups in catalogues that were written and read back, and files of many sizes.
+//! Tests of `mo_file`, `mo_revisions` and `mo_dependent` through their public functions: worked files, files whose
+//! strings overlap, look-ups in catalogues that were written and read back, and files of many sizes.
 //!
 //! The tests have a crate of their own, since a crate with tests is proved twice, with them and without.
 #![tactic(auto)]
@@ -8,6 +8,8 @@
 mod callers;
 #[cfg(test)]
 mod copies;
+#[cfg(test)]
+mod dependent;
 #[cfg(test)]
 mod files;
 #[cfg(test)]

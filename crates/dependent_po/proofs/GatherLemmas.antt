@@ -1,0 +1,143 @@
+-- What is gathered, one entry after another.
+use Rattle.std.proofs.Common.{◌≡◌, ℕ, Bool, true, false, List, [], ◌∷◌, ◌++◌, map, refl, sym, ap, ◌∙◌, subst, Option}
+use Rattle.std.proofs.Common.{None, Some, inl, inr}
+use Rattle.std.specs.Prelude.{cond, ◌&&◌, ◌↔◌, IsTrue, slice_get, string_bytes}
+use Rattle.std.specs.Option.{option_or}
+use Rattle.std.specs.List.{find}
+use Rattle.std.proofs.lemmas.List.{append-nil, map-append}
+use Rattle.std.proofs.lemmas.List.Elements.{filter-append}
+use Rattle.std.proofs.lemmas.List.Folds.{find-append}
+use Rattle.po_text.specs.Entries as po
+use Rattle.po_text.specs.Outcome as outcome
+use Rattle.po_text.specs.Outcome.{IsReadable, body}
+use Rattle.po_text.specs.Progress.{HasRead, GoesOn}
+use Rattle.po_text.specs.declared.reader.EntryReader.{EntryReader}
+use Rattle.po_checks.specs.Found.{FirstLine, HasFound, LooksAt}
+use Rattle.po_checks.specs.Kept.{is_header, is_kept, kept, kept_header}
+use Rattle.po_checks.specs.declared.options.Options.{Options}
+use Rattle.po_checks.specs.declared.findings.Findings.{Findings}
+use Rattle.po_checks.proofs.Checking.{kept_skip, kept_more}
+use Rattle.dependent_po.specs.Counts.{standing_of}
+use Rattle.dependent_po.specs.Formats.{HasOtherArguments}
+use Rattle.dependent_po.specs.EntryGathering.{AddsHeader, AddsKept, AreGathered, Gathers, HasGathered}
+use Rattle.dependent_po.specs.Headers.{header_texts, IsHeaderOf, own_header, stored_texts}
+use Rattle.dependent_po.specs.declared.counts.Standing.{Standing}
+use Rattle.dependent_po.specs.declared.gathered.Gathered.{Gathered}
+use Rattle.dependent_po.specs.declared.header.Header.{Header}
+
+-- ---- the header
+
+find_own : (o : Options) (e : po.Entry) (keeps heads : Bool) → is_kept o e ≡ keeps → is_header e ≡ heads
+    → find is_header (cond (is_kept o e) (e ∷ []) []) ≡ own_header o e
+find_own o e true true k h = rw (k, h) refl
+find_own o e true false k h = rw (k, h) refl
+find_own o e false heads k h = rw k refl
+
+header_more : (o : Options) (es : List po.Entry) (e : po.Entry) → kept_header o (es ++ (e ∷ []))
+    ≡ option_or (kept_header o es) (own_header o e)
+header_more o es e =
+    ap (find is_header) (filter-append (is_kept o) es (e ∷ []))
+    ∙ find-append is_header (kept o es) (cond (is_kept o e) (e ∷ []) [])
+    ∙ ap (option_or (kept_header o es)) (find_own o e (is_kept o e) (is_header e) refl refl)
+
+first_stays : (own header : Option po.Entry) (h : Header) → IsHeaderOf header (Some h)
+    → IsHeaderOf (option_or header own) (Some h)
+first_stays own None h is = absurd (cc is)
+first_stays own (Some e) h is = is
+
+own_comes : (own header : Option po.Entry) (found : Option Header) → IsHeaderOf header None → IsHeaderOf own found
+    → IsHeaderOf (option_or header own) found
+own_comes own None found is it = it
+own_comes own (Some e) found is it = absurd (cc is)
+
+-- the header was found before
+pub header_stays : (o : Options) (e : po.Entry) (old : Option Header) (h : Header) → old ≡ Some h
+    → (es : List po.Entry) → IsHeaderOf (kept_header o es) old → IsHeaderOf (kept_header o (es ++ e ∷ [])) old
+header_stays o e old h some es is = subst (λ (x : Option po.Entry). IsHeaderOf x old) (sym (header_more o es e))
+    (subst (IsHeaderOf (option_or (kept_header o es) (own_header o e))) (sym some)
+    (first_stays (own_header o e) (kept_header o es) h (subst (IsHeaderOf (kept_header o es)) some is)))
+
+-- it wasn't
+pub header_comes : (o : Options) (e : po.Entry) (old new : Option Header) → old ≡ None → IsHeaderOf (own_header o e) new
+    → (es : List po.Entry) → IsHeaderOf (kept_header o es) old → IsHeaderOf (kept_header o (es ++ e ∷ [])) new
+header_comes o e old new none own es is = subst (λ (x : Option po.Entry). IsHeaderOf x new) (sym (header_more o es e))
+    (own_comes (own_header o e) (kept_header o es) new (subst (IsHeaderOf (kept_header o es)) none is) own)
+
+pub header_either : (o : Options) (e : po.Entry) (old new : Option Header)
+    → (old ≡ None → IsHeaderOf (own_header o e) new) → ((h : Header) → old ≡ Some h → new ≡ old)
+    → (es : List po.Entry) → IsHeaderOf (kept_header o es) old → IsHeaderOf (kept_header o (es ++ e ∷ [])) new
+header_either o e old new none some = of old refl
+  where
+    of : (x : Option Header) → old ≡ x → (es : List po.Entry) → IsHeaderOf (kept_header o es) old
+        → IsHeaderOf (kept_header o (es ++ e ∷ [])) new
+    of None is = header_comes o e old new is (none is)
+    of (Some h) is = λ es kept_is. subst (IsHeaderOf (kept_header o (es ++ e ∷ []))) (sym (some h is))
+        (header_stays o e old h is es kept_is)
+
+-- ---- one more entry
+
+-- an entry that isn't kept
+pub skipped : (o : Options) (e : po.Entry) (old mid new : Gathered) (looked : Findings) (s : Standing) → is_kept o e
+    ≡ false → LooksAt o e old.findings looked → s ≡ standing_of e → mid.findings ≡ looked → mid.standings.items
+    ≡ old.standings.items ++ s ∷ [] → mid.messages ≡ old.messages → mid.mismatch ≡ old.mismatch → mid.header
+    ≡ old.header → AddsHeader o e mid new → Gathers o e old new
+skipped o e old mid new looked s lacks looks s_is found pushed messages mismatch header adds es g =
+    let ks : kept o (es ++ e ∷ []) ≡ kept o es = kept_skip o es e lacks in
+    record {
+      messages = subst (AreGathered (kept o (es ++ e ∷ []))) (sym (adds.messages ∙ messages))
+          (subst (λ (xs : List po.Entry). AreGathered xs old.messages) (sym ks) g.messages);
+      findings = subst (HasFound o (es ++ e ∷ [])) (sym (adds.findings ∙ found)) (looks es g.findings);
+      mismatch = λ checked. subst (FirstLine HasOtherArguments (kept o (es ++ e ∷ [])))
+          (sym (adds.mismatch ∙ mismatch))
+          (subst (λ (xs : List po.Entry). FirstLine HasOtherArguments xs old.mismatch) (sym ks) (g.mismatch checked));
+      standings = ap (λ v. v.items) adds.standings ∙ pushed
+          ∙ ap (λ (ss : List Standing). ss ++ s ∷ []) g.standings
+          ∙ ap (λ (x : Standing). map standing_of es ++ x ∷ []) s_is ∙ sym (map-append standing_of es (e ∷ []));
+      header = adds.header es (subst (IsHeaderOf (kept_header o es)) (sym header) g.header);
+    }
+
+-- an entry that is
+pub added : (o : Options) (e : po.Entry) (old mid headed new : Gathered) (looked : Findings) (s : Standing)
+    → is_kept o e ≡ true → LooksAt o e old.findings looked → s ≡ standing_of e → mid.findings ≡ looked
+    → mid.standings.items ≡ old.standings.items ++ s ∷ [] → mid.messages ≡ old.messages → mid.mismatch ≡ old.mismatch
+    → mid.header ≡ old.header → AddsHeader o e mid headed → AddsKept o e headed new → Gathers o e old new
+added o e old mid headed new looked s keeps looks s_is found pushed messages mismatch header adds kept_adds es g =
+    let ks : kept o (es ++ e ∷ []) ≡ kept o es ++ e ∷ [] = kept_more o es e keeps in
+    record {
+      messages = subst (λ (xs : List po.Entry). AreGathered xs new.messages) (sym ks)
+          (kept_adds.messages (kept o es)
+          (subst (AreGathered (kept o es)) (sym (adds.messages ∙ messages)) g.messages));
+      findings = subst (HasFound o (es ++ e ∷ [])) (sym (kept_adds.findings ∙ adds.findings ∙ found))
+          (looks es g.findings);
+      mismatch = λ checked. subst (λ (xs : List po.Entry). FirstLine HasOtherArguments xs new.mismatch) (sym ks)
+          (kept_adds.mismatch checked (kept o es) (subst (FirstLine HasOtherArguments (kept o es))
+          (sym (adds.mismatch ∙ mismatch)) (g.mismatch checked)));
+      standings = ap (λ v. v.items) (kept_adds.standings ∙ adds.standings) ∙ pushed
+          ∙ ap (λ (ss : List Standing). ss ++ s ∷ []) g.standings
+          ∙ ap (λ (x : Standing). map standing_of es ++ x ∷ []) s_is ∙ sym (map-append standing_of es (e ∷ []));
+      header = subst (IsHeaderOf (kept_header o (es ++ e ∷ []))) (sym kept_adds.header)
+          (adds.header es (subst (IsHeaderOf (kept_header o es)) (sym header) g.header));
+    }
+
+-- ---- the text
+
+-- these entries were read, and this was gathered of them
+pub record Reads (text : List ℕ) (o : Options) (reader : EntryReader) (g : Gathered) : Type 0 where
+  pub entries : List po.Entry
+  pub read : HasRead (body text) entries reader
+  pub has : HasGathered o entries g
+
+pub reads_more : (text : List ℕ) (o : Options) (reader next : EntryReader) (old new : Gathered) (e : po.Entry)
+    → (r : Reads text o reader old) → GoesOn true (body text) r.entries e next → Gathers o e old new
+    → Reads text o next new
+reads_more text o reader next old new e r goes gathers = record {
+  entries = r.entries ++ (e ∷ []);
+  read = goes.1;
+  has = gathers r.entries r.has;
+}
+
+pub reads_all : (text : List ℕ) (o : Options) (reader next : EntryReader) (g : Gathered) (e : po.Entry)
+    → IsReadable text → (r : Reads text o reader g) → GoesOn false (body text) r.entries e next
+    → (entries : List po.Entry) × outcome.Gives text entries × HasGathered o entries g
+reads_all text o reader next g e readable r ends =
+    (r.entries, record { readable = readable; reads = ends.0 }, r.has)

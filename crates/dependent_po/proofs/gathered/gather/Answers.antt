@@ -1,0 +1,52 @@
+use Rattle.std.proofs.Common.{inl, inr, ap, refl, []}
+use Rattle.std.proofs.lemmas.Result.{err_from_is_err_and}
+use Rattle.po_text.specs.Outcome.{body}
+use Rattle.po_text.proofs.Outcomes.{faulty_refuses}
+use Rattle.po_checks.specs.Refusal.{kind_of}
+use Rattle.po_text.specs.declared.fault.PoFault.{PoFault}
+use Rattle.po_checks.specs.declared.fault.LoadFault.{LoadFault}
+use Rattle.dependent_po.proofs.GatherLemmas.{reads_more, reads_all}
+use Rattle.dependent_po.proofs.gathered.gather.Goals as goal
+
+abbrev load_fault : PoFault → LoadFault
+load_fault fault = record { kind = kind_of fault.kind; line = fault.line }
+
+pub returns-in_err-reader-clause-err : goal.returns-in_err-reader-clause-err
+returns-in_err-reader-clause-err c =
+    let p = err_from_is_err_and c.from_residual.result c.from_residual.ensures.1 in
+    let fault = c.in_err-reader.field-0.0 in
+    rw (p.1, p.2) (inr (fault.kind, refl, c.in_err-reader.ensures.err))
+
+pub returns-in_err-next_entry-clause-err : goal.returns-in_err-next_entry-clause-err
+returns-in_err-next_entry-clause-err c =
+    let p = err_from_is_err_and c.from_residual-in_err-next_entry.result c.from_residual-in_err-next_entry.ensures.1 in
+    let fault = c.in_err-next_entry.field-0.0 in
+    rw (p.1, p.2) (elim (c.in_err-next_entry.ensures.fault (body c.args.text.now) c.entries.invariant.entries
+    c.entries.invariant.read) [
+      | inl e ↦ inl (ap load_fault e)
+      | inr f ↦ inr (
+        fault.kind,
+        refl,
+        faulty_refuses c.args.text.now fault.kind fault.line c.in_ok-reader.ensures.readable f,
+      )
+    ])
+
+pub entries-init : goal.entries-init
+entries-init c = record {
+  entries = [];
+  read = c.in_ok-reader.ensures.read;
+  has = c.new-gathered.ensures c.args.options;
+}
+
+pub entries-preserved : goal.entries-preserved
+entries-preserved c =
+    let inv = c.entries.invariant in
+    reads_more c.args.text.now c.args.options _ _ _ _ c.next_entry.new.into inv
+    (rw c.if-branch.true at (c.in_ok-next_entry.ensures.read (body c.args.text.now) inv.entries inv.read))
+    c.in_ok-add.ensures
+
+pub returns-clause-ok : goal.returns-clause-ok
+returns-clause-ok c =
+    let inv = c.entries.invariant in
+    reads_all c.args.text.now c.args.options _ _ _ c.next_entry.new.into c.in_ok-reader.ensures.readable inv
+    (rw c.if-branch.false at (c.in_ok-next_entry.ensures.read (body c.args.text.now) inv.entries inv.read))

@@ -1,0 +1,10 @@
+pub mod SplitMessages
+pub mod Formats
+pub mod MacroMeaning
+pub mod SplitViews
+pub mod FormAdding
+pub mod Comparing
+pub mod Late
+pub mod Counts
+pub mod Headers
+pub mod EntryGathering

@@ -1,0 +1,5 @@
+pub mod Splits
+pub mod Segments
+pub mod Hashing
+pub mod Layout
+pub mod FilePieces

@@ -1,0 +1,18 @@
+//! Writes MO files of revision 0.1 and 1.1, which have system-dependent strings (GNU gettext manual, "MO Files"), as
+//! GNU msgfmt writes them.
+#![tactic(auto)]
+
+mod descriptors;
+mod fault;
+mod hashing;
+mod header;
+mod names;
+mod slots;
+mod split;
+mod statics;
+mod words;
+mod writer;
+
+pub use fault::WriteFault;
+pub use split::{Dependent, Split, SplitText, are_split};
+pub use writer::write_dependent;
