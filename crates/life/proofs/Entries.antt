@@ -1,20 +1,24 @@
 -- Requests and their replies, one after another.
 use Rattle.std.specs.List.{AllZip}
 use Rattle.std.specs.declared.alloc.Global.{Global}
-use Rattle.std.specs.Prelude.{get_or}
+use Rattle.std.specs.Prelude.{get_or, Option, None, Some}
 use Rattle.std.specs.String.{string_bytes}
-use Rattle.std.proofs.Common.{◌≡◌, ℕ, ◌+◌, ◌<◌, List, [], ◌∷◌, ◌++◌, take, length, String, refl, sym, ap, ◌∙◌, subst}
-use Rattle.std.proofs.lemmas.List.{take_more}
+use Rattle.std.proofs.Common.{◌≡◌, ◌⊎◌, ℕ, ◌+◌, ◌<◌, List, [], ◌∷◌, ◌++◌, take, length, String, refl, sym, ap, ◌∙◌}
+use Rattle.std.proofs.Common.{subst, append_assoc, inl, inr}
+use Rattle.std.proofs.lemmas.List.{take_more, append-nil}
 use Rattle.std.proofs.lemmas.Slice.Zip.{all_zipped_more, AllZip-long}
 use Rattle.live_set.specs.Loads.{LoadValue}
 use Rattle.live_set.specs.Asks.{QueryValue}
 use Rattle.live_set.specs.Asks.{IsAnswer as HasText}
 use Rattle.live_versions.specs.Batches.{joined, version_of, StartsWith}
+use Rattle.live_versions.specs.Seen.{SeenValue}
+use Rattle.live_loads.proofs.Joining.{begins_refl}
 use Rattle.life.specs.declared.client.Reply.{Reply}
 use Rattle.life.specs.declared.client.Request.{Request}
-use Rattle.life.specs.Acts.{Act, AreTexts, Leads, LeadsAll}
-use Rattle.life.specs.Replies.{queries_in, AreTextsOf, IsReplyTo, AreReplies, looked_up, act_of, acts_for}
-use Rattle.life.proofs.Calls.{leads_snoc}
+use Rattle.life.specs.Acts.{Act, Enters, IsLearning, AreTexts, Leads, LeadsAll}
+use Rattle.life.specs.Replies.{queries_in, AreTextsOf, IsTold, IsReplyTo, AreReplies, looked_up, learning, acts_of_one}
+use Rattle.life.specs.Replies.{acts_for, IsAnswered}
+use Rattle.life.proofs.Calls.{leads_append, same_batches}
 
 -- ---- one entry
 
@@ -37,17 +41,109 @@ texts_more loads queries i query texts text below is all one =
     subst (λ (l : List QueryValue). AllZip R l (texts ++ text ∷ [])) (sym taken)
     (all_zipped_more R (take i queries) texts query text all one)
 
+-- a reply without a notice
+pub plain_answers : (queries : List QueryValue) (seen next : List (List LoadValue)) (reply : Reply)
+    → reply.learnt ≡ None → StartsWith next seen → reply.version ≡ version_of next
+    → AreTextsOf (joined next) queries reply.texts.items → IsAnswered queries seen next reply
+plain_answers queries seen next reply none later version texts =
+    let R : QueryValue → String Global → Type 0 = λ q t. HasText (joined next) q (string_bytes t) in
+    let entry : Act = Enters reply.version (looked_up queries reply.texts.items) in
+    let one : Leads seen entry next = record {
+      later = later;
+      version_is = version;
+      texts = texts_are (joined next) queries reply.texts.items texts;
+    } in
+    record {
+      texts = AllZip-long R queries reply.texts.items texts;
+      leads = subst (λ (o : Option ℕ). LeadsAll seen (learning o ++ entry ∷ []) next) (sym none) (next, one, refl);
+    }
+
+-- a reply with a notice, which was learnt before the entry
+pub told_answers : (queries : List QueryValue) (seen told next : List (List LoadValue)) (reply : Reply) (version : ℕ)
+    → reply.learnt ≡ Some version → IsLearning seen version told → StartsWith next told
+    → reply.version ≡ version_of next → AreTextsOf (joined next) queries reply.texts.items
+    → IsAnswered queries seen next reply
+told_answers queries seen told next reply version some learns later is texts =
+    let R : QueryValue → String Global → Type 0 = λ q t. HasText (joined next) q (string_bytes t) in
+    let entry : Act = Enters reply.version (looked_up queries reply.texts.items) in
+    let one : Leads told entry next = record {
+      later = later;
+      version_is = is;
+      texts = texts_are (joined next) queries reply.texts.items texts;
+    } in
+    record {
+      texts = AllZip-long R queries reply.texts.items texts;
+      leads = subst (λ (o : Option ℕ). LeadsAll seen (learning o ++ entry ∷ []) next) (sym some)
+          (told, learns, (next, one, refl));
+    }
+
+-- `Lookups::learn`, and then an entry
+pub learnt_answers : (queries : List QueryValue) (old notice told next : SeenValue) (reply : Reply)
+    → reply.learnt ≡ Some (version_of notice.batches)
+    → StartsWith told.batches old.batches × StartsWith told.batches notice.batches
+    → (told ≡ old) ⊎ (told ≡ notice) → StartsWith next.batches told.batches
+    → reply.version ≡ version_of next.batches → AreTextsOf (joined next.batches) queries reply.texts.items
+    → IsAnswered queries old.batches next.batches reply
+learnt_answers queries old notice told next reply some longer one later is texts =
+    told_answers queries old.batches told.batches next.batches reply (version_of notice.batches) some (record {
+      notice = notice.batches;
+      version_is = refl;
+      later = longer.0;
+      told = longer.1;
+      one = same_batches told old notice one;
+    }) later is texts
+
+-- two beginnings of a list: one begins the other
+either_begins : (a b x y : List (List LoadValue)) → a ++ x ≡ b ++ y → StartsWith a b ⊎ StartsWith b a
+either_begins [] b x y is = inr (b, refl)
+either_begins (p ∷ ps) [] x y is = inl (p ∷ ps, refl)
+either_begins (p ∷ ps) (q ∷ qs) x y is =
+    let head : p ≡ q = cc (is) in
+    let tails : ps ++ x ≡ qs ++ y = cc (is) in
+    both (either_begins ps qs x y tails) head where
+      both : StartsWith ps qs ⊎ StartsWith qs ps → p ≡ q → StartsWith (p ∷ ps) (q ∷ qs) ⊎ StartsWith (q ∷ qs) (p ∷ ps)
+      both (inl (rest, more)) head = inl (rest, λ i. head i ∷ more i)
+      both (inr (rest, more)) head = inr (rest, λ i. sym head i ∷ more i)
+
+-- `Reader::enter_after` of a snapshot store
+pub entered_answers : (queries : List QueryValue) (old notice next : SeenValue) (reply : Reply)
+    → reply.learnt ≡ Some (version_of notice.batches) → StartsWith next.batches notice.batches
+    → StartsWith next.batches old.batches → reply.version ≡ version_of next.batches
+    → AreTextsOf (joined next.batches) queries reply.texts.items → IsAnswered queries old.batches next.batches reply
+entered_answers queries old notice next reply some entered later is texts =
+    longer (either_begins old.batches notice.batches later.0 entered.0 (sym later.1 ∙ entered.1)) where
+      longer : StartsWith old.batches notice.batches ⊎ StartsWith notice.batches old.batches
+          → IsAnswered queries old.batches next.batches reply
+      longer (inl older) = told_answers queries old.batches old.batches next.batches reply (version_of notice.batches)
+          some (record {
+            notice = notice.batches;
+            version_is = refl;
+            later = begins_refl old.batches;
+            told = older;
+            one = inl refl;
+          }) later is texts
+      longer (inr newer) = told_answers queries old.batches notice.batches next.batches reply
+          (version_of notice.batches) some (record {
+            notice = notice.batches;
+            version_is = refl;
+            later = newer;
+            told = begins_refl notice.batches;
+            one = inr refl;
+          }) entered is texts
+
 -- ---- all requests
 
 acts_more : (requests : List Request) (replies : List Reply) (request : Request) (reply : Reply)
     → AreReplies requests replies
     → acts_for (requests ++ request ∷ []) (replies ++ reply ∷ [])
-    ≡ acts_for requests replies ++ act_of request reply ∷ []
-acts_more [] [] request reply are = refl
+    ≡ acts_for requests replies ++ acts_of_one (queries_in request) reply
+acts_more [] [] request reply are = append-nil (acts_of_one (queries_in request) reply)
 acts_more [] (p ∷ ps) request reply are = absurd are
 acts_more (r ∷ rs) [] request reply are = absurd are
 acts_more (r ∷ rs) (p ∷ ps) request reply are =
-    ap (λ (l : List Act). act_of r p ∷ l) (acts_more rs ps request reply are.1)
+    let first : List Act = acts_of_one (queries_in r) p in
+    ap (λ (l : List Act). first ++ l) (acts_more rs ps request reply are.1)
+    ∙ sym (append_assoc first (acts_for rs ps) (acts_of_one (queries_in request) reply))
 
 -- some first requests are answered
 pub record Replied (first now : List (List LoadValue)) (requests : List Request) (replies : List Reply) : Type 0 where
@@ -57,23 +153,18 @@ pub record Replied (first now : List (List LoadValue)) (requests : List Request)
 -- one request more
 pub replied_more : (first now next : List (List LoadValue)) (requests : List Request) (i : ℕ) (request : Request)
     (replies : List Reply) (reply : Reply) → i < length requests → request ≡ get_or requests i request
-    → Replied first now (take i requests) replies → StartsWith next now → reply.version ≡ version_of next
-    → AreTextsOf (joined next) (queries_in request) reply.texts.items
+    → Replied first now (take i requests) replies → IsTold request reply.learnt
+    → IsAnswered (queries_in request) now next reply
     → Replied first next (take (i + 1) requests) (replies ++ reply ∷ [])
-replied_more first now next requests i request replies reply below is all later version texts =
+replied_more first now next requests i request replies reply below is all told one =
     let taken : take (i + 1) requests ≡ take i requests ++ request ∷ [] = take_more requests i request below
     ∙ ap (λ x. take i requests ++ x ∷ []) (sym is) in
-    let R : QueryValue → String Global → Type 0 = λ q t. HasText (joined next) q (string_bytes t) in
-    let fits : IsReplyTo request reply = AllZip-long R (queries_in request) reply.texts.items texts in
-    let one : Leads now (act_of request reply) next = record {
-      later = later;
-      version_is = version;
-      texts = texts_are (joined next) (queries_in request) reply.texts.items texts;
-    } in
+    let fits : IsReplyTo request reply = record { told = told; texts = one.texts } in
+    let mine : List Act = acts_of_one (queries_in request) reply in
     let acts = acts_more (take i requests) replies request reply all.each in
     let more : Replied first next (take i requests ++ request ∷ []) (replies ++ reply ∷ []) = record {
       each = all_zipped_more IsReplyTo (take i requests) replies request reply all.each fits;
       leads = subst (λ (l : List Act). LeadsAll first l next) (sym acts)
-          (leads_snoc first (acts_for (take i requests) replies) now next (act_of request reply) all.leads one);
+          (leads_append first (acts_for (take i requests) replies) now mine next all.leads one.leads);
     } in
     subst (λ (l : List Request). Replied first next l (replies ++ reply ∷ [])) (sym taken) more

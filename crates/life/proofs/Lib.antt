@@ -9,3 +9,4 @@ pub mod Running
 pub mod Fresh
 pub mod Looking
 pub mod Seated
+pub mod Boards

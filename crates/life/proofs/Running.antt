@@ -60,6 +60,10 @@ stops_at s t commands i outcomes done = record {
   done = done;
 }
 
+pub none_done : (s t : StoreValue) (commands : List Command) → t ≡ s → StopsAfter s commands t
+none_done s t commands same =
+    record { first = []; rest = commands; split = refl; outcomes = []; done = same }
+
 -- a refusal is one in every store of this state
 any_store : (most : ℕ) (s : State) (store other : SeenValue) (job : JobValue) (why : StoreFault)
     → IsRefused (store_in most s store) job why → IsRefused (store_in most s other) job why

@@ -19,7 +19,7 @@ pub record HasLearnt (start : SeenValue) (client after : Client) : Type 0 where
   pub told : StartsWith after.reader.batches start.batches
   pub one : (after.reader ≡ client.reader) ⊎ (after.reader ≡ start)
 
--- each request is answered by one entry, one after another
+-- each request is answered by one entry, one after another, and the notices that replies name are learnt before
 pub record HasAnswered (client after : Client) : Type 0 where
   pub each : AreReplies client.requests.items after.replies.items
   pub leads : LeadsAll client.reader.batches (acts_for client.requests.items after.replies.items)
@@ -32,7 +32,8 @@ pub record HasSettled (end : SeenValue) (client after : Client) : Type 0 where
   pub requests : after.requests ≡ client.requests
   pub replies : after.replies ≡ client.replies
 
--- what a client does in a run: it learns a notice of the start, enters for each request, and learns one of the end
+-- what a client does in a run: it learns a notice of the start, enters for each request, before which it may learn one
+-- more, and learns one of the end
 abbrev pub run_acts : ℕ → ℕ → Client → List Act
 run_acts start end client = Learns start ∷ (acts_for client.requests.items client.replies.items ++ Learns end ∷ [])
 

@@ -8,3 +8,4 @@ pub mod Serving
 pub mod PublisherWork
 pub mod Continuing
 pub mod Promise
+pub mod Boards

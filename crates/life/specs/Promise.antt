@@ -13,15 +13,16 @@ use Rattle.life.specs.Clients.{run_acts}
 use Rattle.life.specs.Life.{IsStepOf, acts_of, met}
 use Rattle.life.specs.PublisherWork.{AreCommands}
 
--- each client's acts from the opening to the end: a notice of nothing, an entry for each request with the texts of all
--- its queries, and a notice of the end
+-- each client's acts from the opening to the end: a notice of nothing, for each request an entry with the texts of all
+-- its queries, after the notice that it learnt if it is to learn first, and a notice of the end
 abbrev pub client_acts : ℕ → List Client → List (List Act)
 client_acts end clients = map (run_acts 0 end) clients
 
 -- There is one legal history from the opening of a store that accepts `most` loads. The commands with their outcomes
 -- are its events that are no reader's. The steps of each reader in it are entries, one for each request, in order,
--- with the reply that it was given, between a notice of nothing and one of what is published at the end. All queries
--- of a request are answered over what is published at that one step.
+-- with the reply that it was given, between a notice of nothing and one of what is published at the end. If a reply
+-- names a notice, it is learnt just before the entry. All queries of a request are answered over what is published at
+-- that one step.
 pub record IsRun (most : ℕ) (commands : List Command) (outcomes : List Outcome) (clients : List Client) : Type 0 where
   pub history : List Event
   pub legal : IsLegal most history

@@ -1,5 +1,5 @@
 -- What requests are answered.
-use Rattle.std.specs.Prelude.{◌≡◌, List, [], ◌∷◌, String, length}
+use Rattle.std.specs.Prelude.{◌≡◌, ℕ, List, [], ◌∷◌, ◌++◌, String, length, IsSome, Option, None, Some}
 use Rattle.std.specs.List.{AllZip}
 use Rattle.std.specs.declared.alloc.Global.{Global}
 use Rattle.std.specs.String.{string_bytes}
@@ -8,22 +8,29 @@ use Rattle.live_set.specs.Asks.{QueryValue}
 use Rattle.live_set.specs.Asks.{IsAnswer as HasText}
 use Rattle.life.specs.declared.client.Reply.{Reply}
 use Rattle.life.specs.declared.client.Request.{Request}
-use Rattle.life.specs.declared.client.Request.TheVariants.{Ask, AskInto, Group}
-use Rattle.life.specs.Acts.{Looked, Act, Enters}
+use Rattle.life.specs.declared.client.Request.TheVariants.{Ask, AskInto, Group, LearnFirst}
+use Rattle.life.specs.Acts.{Looked, Act, Enters, Learns, LeadsAll}
 
 -- the queries of a request, all of which are looked up in one entry
 abbrev pub queries_in : Request → List QueryValue
 queries_in (Ask query) = query ∷ []
 queries_in (AskInto query) = query ∷ []
 queries_in (Group queries) = queries.items
+queries_in (LearnFirst queries) = queries.items
 
 -- one text for each query, which is its answer over these loads
 abbrev pub AreTextsOf : List LoadValue → List QueryValue → List (String Global) → Type 0
 AreTextsOf loads queries texts = AllZip (λ query text. HasText loads query (string_bytes text)) queries texts
 
--- the reply has one text for each query
-abbrev pub IsReplyTo : Request → Reply → Type 0
-IsReplyTo request reply = length reply.texts.items ≡ length (queries_in request)
+-- a request that has the reader learn first is told the version of a notice, and no other is
+abbrev pub IsTold : Request → Option ℕ → Type 0
+IsTold (LearnFirst queries) learnt = IsSome learnt
+IsTold request learnt = learnt ≡ None
+
+-- the reply has one text for each query, and names a notice if the request is to learn first
+pub record IsReplyTo (request : Request) (reply : Reply) : Type 0 where
+  pub told : IsTold request reply.learnt
+  pub texts : length reply.texts.items ≡ length (queries_in request)
 
 -- one reply for each request
 abbrev pub AreReplies : List Request → List Reply → Type 0
@@ -35,11 +42,22 @@ looked_up (query ∷ queries) (text ∷ texts) =
     record { query = query; text = string_bytes text } ∷ looked_up queries texts
 looked_up _ _ = []
 
--- a request with its reply is one entry, in which all of its queries are looked up
-abbrev pub act_of : Request → Reply → Act
-act_of request reply = Enters reply.version (looked_up (queries_in request) reply.texts.items)
+-- a notice of this version is learnt, if there is one
+abbrev pub learning : Option ℕ → List Act
+learning None = []
+learning (Some version) = Learns version ∷ []
 
--- one entry for each request, in order
+-- the acts of a reply: the notice that it names is learnt, if it names one, and then all queries are looked up in one
+-- entry
+abbrev pub acts_of_one : List QueryValue → Reply → List Act
+acts_of_one queries reply = learning reply.learnt ++ Enters reply.version (looked_up queries reply.texts.items) ∷ []
+
+-- those of all requests, in order
 abbrev pub acts_for : List Request → List Reply → List Act
-acts_for (request ∷ requests) (reply ∷ replies) = act_of request reply ∷ acts_for requests replies
+acts_for (request ∷ requests) (reply ∷ replies) = acts_of_one (queries_in request) reply ++ acts_for requests replies
 acts_for _ _ = []
+
+-- queries are answered by this reply of a reader that had seen these batches before, and has seen those afterwards
+pub record IsAnswered (queries : List QueryValue) (seen next : List (List LoadValue)) (reply : Reply) : Type 0 where
+  pub texts : length reply.texts.items ≡ length queries
+  pub leads : LeadsAll seen (acts_of_one queries reply) next

@@ -1,14 +1,16 @@
 //! The reading threads: each client's requests.
-ghost use Rattle.std.specs.Prelude.{◌≡◌, [], ◌∷◌, IfOk, OnOk};
+ghost use Rattle.std.specs.Prelude.{◌≡◌, [], ◌∷◌, None, IfOk, OnOk, IsSome};
 ghost use Rattle.live_versions.specs.Batches.{joined, version_of, StartsWith};
 ghost use Rattle.live_versions.specs.Entering.{visit_of};
 ghost use Rattle.life.specs.Acts.{LeadsAll};
-ghost use Rattle.life.specs.Replies.{AreTextsOf, AreReplies, queries_in, acts_for};
+ghost use Rattle.life.specs.Boards.{numbers_of};
+ghost use Rattle.life.specs.Replies.{AreTextsOf, AreReplies, IsTold, IsAnswered, queries_in, acts_for};
 
+use crate::board::{Board, OfStore};
 use crate::client::{Client, Reply, Request};
 use desks::{Gate, Place, ServeFault};
 use live_set::Query;
-use live_versions::{Lookups, Pinned, Version};
+use live_versions::{Lookups, Notice, Pinned, Version};
 use std::alloc::{AllocError, Global};
 use std::mem;
 use thread_tree::Work;
@@ -34,6 +36,7 @@ fn look_all(
 fn answer_group(alloc: Global, reader: &mut Lookups, queries: &[Query]) -> Result<Reply, ServeFault>
     ensures book { reader.new.book ≡ reader.old.book }
     ensures later { StartsWith reader.new.batches reader.old.batches }
+    ensures learnt { IfOk result (λ reply. reply.learnt ≡ None) }
     ensures version { IfOk result (λ reply. reply.version ≡ version_of reader.new.batches) }
     ensures texts { IfOk result (λ reply. AreTextsOf (joined reader.new.batches) queries.now reply.texts.items) }
 {
@@ -44,18 +47,27 @@ fn answer_group(alloc: Global, reader: &mut Lookups, queries: &[Query]) -> Resul
     let looked = look_all(alloc, &pinned, queries);
     pinned.leave();
     match looked {
-        Ok(texts) => Ok(Reply { version, texts }),
+        Ok(texts) => Ok(Reply {
+            learnt: None,
+            version,
+            texts,
+        }),
         Err(_) => Err(ServeFault::Memory),
     }
 }
 
 /// The reply with one text.
 fn reply_of(alloc: Global, version: Version, text: String) -> Result<Reply, ServeFault>
-    ensures { IfOk result (λ reply. (reply.version ≡ version) × (reply.texts.items ≡ text ∷ [])) }
+    ensures { IfOk result (λ reply.
+        (reply.learnt ≡ None) × (reply.version ≡ version) × (reply.texts.items ≡ text ∷ [])) }
 {
     let mut texts = Vec::new(alloc);
     match texts.push(text) {
-        Ok(()) => Ok(Reply { version, texts }),
+        Ok(()) => Ok(Reply {
+            learnt: None,
+            version,
+            texts,
+        }),
         Err(_) => Err(ServeFault::Memory),
     }
 }
@@ -64,6 +76,7 @@ fn reply_of(alloc: Global, version: Version, text: String) -> Result<Reply, Serv
 fn answer_ask(alloc: Global, reader: &mut Lookups, query: &Query) -> Result<Reply, ServeFault>
     ensures book { reader.new.book ≡ reader.old.book }
     ensures later { StartsWith reader.new.batches reader.old.batches }
+    ensures learnt { IfOk result (λ reply. reply.learnt ≡ None) }
     ensures version { IfOk result (λ reply. reply.version ≡ version_of reader.new.batches) }
     ensures texts { IfOk result (λ reply. AreTextsOf (joined reader.new.batches) (query.now ∷ []) reply.texts.items) }
 {
@@ -82,6 +95,7 @@ fn answer_into(
 ) -> Result<Reply, ServeFault>
     ensures book { reader.new.book ≡ reader.old.book }
     ensures later { StartsWith reader.new.batches reader.old.batches }
+    ensures learnt { IfOk result (λ reply. reply.learnt ≡ None) }
     ensures version { IfOk result (λ reply. reply.version ≡ version_of reader.new.batches) }
     ensures texts { IfOk result (λ reply. AreTextsOf (joined reader.new.batches) (query.now ∷ []) reply.texts.items) }
 {
@@ -94,23 +108,47 @@ fn answer_into(
     }
 }
 
+/// Has the reader learn the newest notice, and answers a group of queries in one entry.
+#[tactic(auto, using(crate::proofs::Boards::same_book, crate::proofs::Entries::learnt_answers))]
+fn answer_learnt(
+    alloc: Global,
+    reader: &mut Lookups,
+    board: &Board<Notice, OfStore>,
+    queries: &[Query],
+) -> Result<Reply, ServeFault>
+    requires { board.now ≡ numbers_of reader.old.book }
+    ensures book { reader.new.book ≡ reader.old.book }
+    ensures later { StartsWith reader.new.batches reader.old.batches }
+    ensures learnt { IfOk result (λ reply. IsSome reply.learnt) }
+    ensures answers { IfOk result (IsAnswered queries.now reader.old.batches reader.new.batches) }
+{
+    let notice = board.newest();
+    reader.learn(notice);
+    let mut reply = answer_group(alloc, reader, queries)?;
+    reply.learnt = Some(notice.version());
+    Ok(reply)
+}
+
 /// Answers a request by one entry.
+#[tactic(auto, using(crate::proofs::Entries::plain_answers))]
 fn answer(
     alloc: Global,
     reader: &mut Lookups,
     kept: &mut String,
+    board: &Board<Notice, OfStore>,
     request: &Request,
 ) -> Result<Reply, ServeFault>
+    requires { board.now ≡ numbers_of reader.old.book }
     ensures book { reader.new.book ≡ reader.old.book }
     ensures later { StartsWith reader.new.batches reader.old.batches }
-    ensures version { IfOk result (λ reply. reply.version ≡ version_of reader.new.batches) }
-    ensures texts { IfOk result (λ reply.
-        AreTextsOf (joined reader.new.batches) (queries_in request.now) reply.texts.items) }
+    ensures told { IfOk result (λ reply. IsTold request.now reply.learnt) }
+    ensures answers { IfOk result (IsAnswered (queries_in request.now) reader.old.batches reader.new.batches) }
 {
     match request {
         Request::Ask(query) => answer_ask(alloc, reader, query),
         Request::AskInto(query) => answer_into(alloc, reader, kept, query),
         Request::Group(queries) => answer_group(alloc, reader, queries.as_slice()),
+        Request::LearnFirst(queries) => answer_learnt(alloc, reader, board, queries.as_slice()),
     }
 }
 
@@ -120,9 +158,11 @@ fn answer_all<G: Gate>(
     alloc: Global,
     worker: u32,
     reader: &mut Lookups,
+    board: &Board<Notice, OfStore>,
     requests: &[Request],
     replies: &mut Vec<Reply>,
 ) -> Result<(), ServeFault>
+    requires { board.now ≡ numbers_of reader.old.book }
     ensures book { reader.new.book ≡ reader.old.book }
     ensures later { StartsWith reader.new.batches reader.old.batches }
     ensures each { OnOk result (AreReplies requests.now replies.new.items) }
@@ -133,7 +173,7 @@ fn answer_all<G: Gate>(
     let mut kept = String::new(alloc);
     for index in 0..requests.len() {
         gate.pass(Place::Worker(worker), index as u64);
-        let reply = answer(alloc, reader, &mut kept, &requests[index])?;
+        let reply = answer(alloc, reader, &mut kept, board, &requests[index])?;
         if replies.push(reply).is_err() {
             return Err(ServeFault::Memory);
         }
@@ -147,13 +187,15 @@ fn answer_all<G: Gate>(
 pub(crate) struct Answering<'a, G> {
     pub(crate) gate: &'a G,
     pub(crate) alloc: Global,
+    pub(crate) board: &'a Board<Notice, OfStore>,
 }
 
 impl<'a, G: Gate> Work<Client, ServeFault> for Answering<'a, G> {
-    ghost use Rattle.std.specs.Prelude.{⊤};
+    ghost use Rattle.std.specs.Prelude.{◌≡◌};
+    ghost use Rattle.life.specs.Boards.{numbers_of};
     ghost use Rattle.life.specs.Clients.{KeepsClient, HasAnswered};
 
-    ghost fits = { λ w client. ⊤ };
+    ghost fits = { λ w client. w.board.now ≡ numbers_of client.reader.book };
 
     ghost keeps = { KeepsClient };
 
@@ -168,6 +210,7 @@ impl<'a, G: Gate> Work<Client, ServeFault> for Answering<'a, G> {
             self.alloc,
             worker,
             &mut client.reader,
+            self.board,
             client.requests.as_slice(),
             &mut replies,
         );

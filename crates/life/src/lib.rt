@@ -8,6 +8,7 @@
 #![tactic(auto)]
 
 mod answer;
+mod board;
 mod client;
 mod command;
 mod law;

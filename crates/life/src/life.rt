@@ -90,7 +90,8 @@ fn open_clients<R: Wait>(
 }
 
 /// Opens a store that accepts `most` loads, with a reader for each list of requests. Does the commands in one thread
-/// while each list is answered in a thread of its own, and then ends the store.
+/// while each list is answered in a thread of its own, and then ends the store. The publisher leaves a notice after
+/// each command, which a request may have its reader learn first.
 ///
 /// The clause `promise` is what the store promises: for every list of loads and publishes and every schedule of the
 /// threads, each request acts as one step of one legal history, however many queries it looks up.

@@ -2,11 +2,13 @@
 ghost use Rattle.std.specs.List.{AllZip, AllByRecursion};
 ghost use Rattle.std.specs.Thread.{IsSync};
 ghost use Rattle.std.specs.Prelude.{◌≡◌, ◌≤◌, OnOk, IfOk, length};
+ghost use Rattle.life.specs.Boards.{numbers_of};
 ghost use Rattle.life.specs.Clients.{KeepsClient, HasAnswered, IsServed};
 ghost use Rattle.life.specs.PublisherWork.{DoesAll, StopsAfter};
 ghost use Rattle.life.specs.Continuing.{HasLife};
 
 use crate::answer::Answering;
+use crate::board::Board;
 use crate::client::Client;
 use crate::command::{Command, Outcome};
 use crate::publish::do_commands;
@@ -18,8 +20,43 @@ use std::sync::Wait;
 use std::thread::{Threads, join_mut};
 use thread_tree::work_all;
 
-/// The commands and the requests of all clients, at the same time.
-#[tactic(auto, using(thread_tree::proofs::Fitting::all_fit))]
+/// The commands and the requests of all clients, at the same time, with a board between them.
+fn run_both<R: Threads + Wait + Sync, G: Gate + Sync>(
+    rt: &R,
+    answering: &Answering<'_, G>,
+    publisher: &mut Publisher,
+    outcomes: &mut Vec<Outcome>,
+    commands: &[Command],
+    clients: &mut [Client],
+) -> Result<(), ServeFault>
+    requires board { answering.now.board.now ≡ numbers_of publisher.old.seen.book }
+    requires fits { AllByRecursion (λ c. answering.now.board.now ≡ numbers_of c.reader.book) clients.old }
+    requires count { length clients.old ≤ 16 }
+    ensures book { publisher.new.seen.book ≡ publisher.old.seen.book }
+    ensures does { OnOk result (DoesAll publisher.old commands.now outcomes.new.items publisher.new) }
+    ensures stops { StopsAfter publisher.old commands.now publisher.new }
+    ensures kept { AllZip KeepsClient clients.old clients.new }
+    ensures answered { OnOk result (AllZip HasAnswered clients.old clients.new) }
+{
+    let Answering { gate, alloc, board } = *answering;
+    let (published, answered) = join_mut(
+        rt,
+        &mut || do_commands(rt, gate, alloc, publisher, board, commands, outcomes),
+        &mut ||
+            requires { IsSync R.row × IsSync G.row × (length clients.now ≤ 16)
+                × AllByRecursion (λ c. answering.now.board.now ≡ numbers_of c.reader.book) clients.now }
+            ensures kept { AllZip KeepsClient clients.entry.now clients.exit.now }
+            ensures answered { OnOk result (AllZip HasAnswered clients.entry.now clients.exit.now) }
+        { work_all(rt, answering, 0, clients) },
+    );
+    if published.is_err() {
+        return Err(ServeFault::Memory);
+    }
+    answered
+}
+
+/// Makes a board, on which the publisher leaves its notices, for the commands and the requests.
+#[tactic(auto, using(crate::proofs::Clients::kept_all, crate::proofs::Running::none_done))]
 fn run_all<R: Threads + Wait + Sync, G: Gate + Sync>(
     rt: &R,
     alloc: Global,
@@ -29,6 +66,7 @@ fn run_all<R: Threads + Wait + Sync, G: Gate + Sync>(
     gate: &G,
     clients: &mut [Client],
 ) -> Result<(), ServeFault>
+    requires book { AllByRecursion (λ c. c.reader.book ≡ publisher.old.seen.book) clients.old }
     requires count { length clients.old ≤ 16 }
     ensures book { publisher.new.seen.book ≡ publisher.old.seen.book }
     ensures does { OnOk result (DoesAll publisher.old commands.now outcomes.new.items publisher.new) }
@@ -36,20 +74,16 @@ fn run_all<R: Threads + Wait + Sync, G: Gate + Sync>(
     ensures kept { AllZip KeepsClient clients.old clients.new }
     ensures answered { OnOk result (AllZip HasAnswered clients.old clients.new) }
 {
-    let answering = Answering { gate, alloc };
-    let (published, answered) = join_mut(
-        rt,
-        &mut || do_commands(rt, gate, alloc, publisher, commands, outcomes),
-        &mut ||
-            requires { IsSync R.row × IsSync G.row × (length clients.now ≤ 16) }
-            ensures kept { AllZip KeepsClient clients.entry.now clients.exit.now }
-            ensures answered { OnOk result (AllZip HasAnswered clients.entry.now clients.exit.now) }
-        { work_all(rt, &answering, 0, clients) },
-    );
-    if published.is_err() {
+    let opening = publisher.tell();
+    let Ok(board) = Board::new(alloc, commands.len(), opening) else {
         return Err(ServeFault::Memory);
-    }
-    answered
+    };
+    let answering = Answering {
+        gate,
+        alloc,
+        board: &board,
+    };
+    run_both(rt, &answering, publisher, outcomes, commands, clients)
 }
 
 /// Does the commands while the requests of all clients are answered, and then settles each reader.

@@ -1,7 +1,7 @@
 //! Commands with their outcomes, and requests, as the tables of the tests have them.
 use catalogue::{LoadFault, LoadKind, Options, Stats};
 use desks::{Accepted, Gate, Job, Place, Source};
-use life::{Command, Life, LifeFault, Outcome, Request, run_life};
+use life::{Command, Life, LifeFault, Outcome, Reply, Request, run_life};
 use live_set::{Ask, Query};
 use live_versions::StoreFault;
 use std::alloc::{AllocError, Global};
@@ -122,14 +122,31 @@ pub(crate) enum Way {
     Ask,
     AskInto,
     Group,
+    LearnFirst,
+}
+
+impl Way {
+    /// Whether all queries are one request.
+    pub(crate) fn is_whole(&self) -> bool {
+        matches!(*self, Way::Group | Way::LearnFirst)
+    }
+
+    /// Whether a reply in this way names a notice if it is to, and one that isn't newer than its entry.
+    pub(crate) fn is_told(&self, reply: &Reply) -> bool {
+        match reply.learnt {
+            Some(version) => *self == Way::LearnFirst && version <= reply.version,
+            None => *self != Way::LearnFirst,
+        }
+    }
 }
 
 /// One way after another, and then all over again.
 pub(crate) fn way_of(number: usize) -> Way {
-    match number % 3 {
+    match number % 4 {
         0 => Way::Ask,
         1 => Way::AskInto,
-        _ => Way::Group,
+        2 => Way::Group,
+        _ => Way::LearnFirst,
     }
 }
 
@@ -174,12 +191,12 @@ pub(crate) fn query_of(alloc: Global, asked: Asked) -> Result<Query, AllocError>
     })
 }
 
-fn group_of(alloc: Global, asked: &[Asked]) -> Result<Request, AllocError> {
+fn queries_of(alloc: Global, asked: &[Asked]) -> Result<Vec<Query>, AllocError> {
     let mut queries = Vec::new(alloc);
     for one in asked {
         queries.push(query_of(alloc, *one)?)?;
     }
-    Ok(Request::Group(queries))
+    Ok(queries)
 }
 
 /// Adds the requests that look up these queries: one group of them all, or one request for each.
@@ -189,8 +206,13 @@ pub(crate) fn push_requests(
     way: Way,
     asked: &[Asked],
 ) -> Result<(), AllocError> {
-    if way == Way::Group {
-        requests.push(group_of(alloc, asked)?)?;
+    if way.is_whole() {
+        let queries = queries_of(alloc, asked)?;
+        requests.push(if way == Way::Group {
+            Request::Group(queries)
+        } else {
+            Request::LearnFirst(queries)
+        })?;
         return Ok(());
     }
     for one in asked {

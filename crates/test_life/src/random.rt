@@ -105,10 +105,11 @@ impl Random {
     }
 
     fn way(&mut self) -> Way {
-        match self.below(3) {
+        match self.below(4) {
             0 => Way::Ask,
             1 => Way::AskInto,
-            _ => Way::Group,
+            2 => Way::Group,
+            _ => Way::LearnFirst,
         }
     }
 
@@ -312,6 +313,14 @@ impl Fold {
         }
     }
 
+    /// Whether a reply in this way names a notice if it is to, and one that was left by then.
+    fn tells(self, way: Way, reply: &Reply) -> bool {
+        match reply.learnt {
+            Some(version) => way.is_told(reply) && self.was_published(version),
+            None => way.is_told(reply),
+        }
+    }
+
     /// Whether this is the reply to the next `count` queries: all of them at one version that was published, and not
     /// below `least`.
     fn answers(self, random: &mut Random, count: u64, reply: &Reply, least: Version) -> bool {
@@ -336,7 +345,7 @@ impl Fold {
         let batches = random.below(5);
         for _ in 0..batches {
             let (way, count) = (random.way(), random.below(5));
-            let (requests, queries) = if way == Way::Group {
+            let (requests, queries) = if way.is_whole() {
                 (1, count)
             } else {
                 (count, 1)
@@ -345,7 +354,7 @@ impl Fold {
                 let Some((reply, others)) = rest.split_first() else {
                     return false;
                 };
-                if !self.answers(random, queries, reply, least) {
+                if !self.tells(way, reply) || !self.answers(random, queries, reply, least) {
                     return false;
                 }
                 least = reply.version;

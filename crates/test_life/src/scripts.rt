@@ -64,11 +64,7 @@ impl Play {
         let way = self.way(place);
         let mut end: usize = 0;
         for round in reader.rounds {
-            let requests = if way == Way::Group {
-                1
-            } else {
-                round.asked.len()
-            };
+            let requests = if way.is_whole() { 1 } else { round.asked.len() };
             end = end.saturating_add(requests);
             if index < end {
                 return round.after;
@@ -108,6 +104,14 @@ fn lists_of(alloc: Global, play: Play) -> Result<Vec<Vec<Request>>, AllocError> 
     Ok(lists)
 }
 
+/// Whether a reply names a notice if it is to. Since the publisher is held, the newest one is of the reply's version.
+fn learns(way: Way, reply: &Reply) -> bool {
+    match reply.learnt {
+        Some(version) => way == Way::LearnFirst && version == reply.version,
+        None => way != Way::LearnFirst || reply.texts.is_empty(),
+    }
+}
+
 /// Whether a reader's texts are those of the script, each at its version.
 fn says(play: Play, place: usize, replies: &[Reply]) -> bool {
     let Some(reader) = play.reader(place) else {
@@ -115,6 +119,9 @@ fn says(play: Play, place: usize, replies: &[Reply]) -> bool {
     };
     let mut index: usize = 0;
     for reply in replies {
+        if !learns(play.way(place), reply) {
+            return false;
+        }
         for text in reply.texts.as_slice() {
             match reader.said.get(index) {
                 Some((version, said)) if *version == reply.version && *said == text.as_str() => {}
@@ -352,10 +359,25 @@ fn each_request_is_one_step(rt: HostRuntime) -> Result<(), Fail> {
     Ok(())
 }
 
+/// A single reader learns the newest notice before each of its entries: before the first publish, between the two, and
+/// after them.
+#[test]
+fn the_newest_notice_is_learnt(rt: HostRuntime) -> Result<(), Fail> {
+    for store in [Store::Live, Store::Snapshots] {
+        let play = Play {
+            script: COMMON,
+            readers: 1,
+            first: 3,
+        };
+        assert!(rt; is_played(&rt, rt.alloc(), store, play)?);
+    }
+    Ok(())
+}
+
 /// Each reader looks up in each way.
 #[test]
 fn a_script_is_answered_as_catserve_answers_it(rt: HostRuntime) -> Result<(), Fail> {
-    for first in 0..3 {
+    for first in 0..4 {
         let play = Play {
             script: STORED,
             readers: 2,

@@ -3,10 +3,12 @@ ghost use Rattle.std.specs.List.{AllZip, AllByRecursion};
 ghost use Rattle.std.specs.Thread.{IsSync};
 ghost use Rattle.std.specs.Prelude.{◌≡◌, ◌<◌, ◌^◌, [], IfOk, OnOk, length, map, vec_len};
 ghost use Rattle.snapshot_store.specs.Holding.{most_loads};
+ghost use Rattle.life.specs.Boards.{numbers_of};
 ghost use Rattle.life.specs.Clients.{KeepsClient, HasAnswered, IsServed};
 ghost use Rattle.life.specs.Promise.{IsRun};
 ghost use Rattle.life.specs.PublisherWork.{DoesAll};
 
+use crate::board::Board;
 use crate::client::Request;
 use crate::command::{Command, Outcome};
 use crate::life::LifeFault;
@@ -51,6 +53,41 @@ fn seat_all(
 /// The commands and the requests of all clients, at the same time.
 fn run_both<R: Threads + Sync, G: Gate + Sync>(
     rt: &R,
+    answering: &Answering<'_, G>,
+    publisher: &mut Publisher,
+    outcomes: &mut Vec<Outcome>,
+    commands: &[Command],
+    clients: &mut [Client],
+) -> Result<(), ServeFault>
+    requires count { length clients.old < 2 ^ 32 }
+    requires board { answering.now.board.now ≡ numbers_of publisher.old.seen.book }
+    requires fits { AllByRecursion (λ c. answering.now.board.now ≡ numbers_of c.reader.book) clients.old }
+    ensures book { publisher.new.seen.book ≡ publisher.old.seen.book }
+    ensures does { OnOk result (DoesAll publisher.old commands.now outcomes.new.items publisher.new) }
+    ensures kept { AllZip KeepsClient clients.old clients.new }
+    ensures answered { OnOk result (AllZip HasAnswered clients.old clients.new) }
+{
+    let Answering { gate, alloc, board } = *answering;
+    let (published, answered) = join_mut(
+        rt,
+        &mut || do_commands(gate, alloc, publisher, board, commands, outcomes),
+        &mut ||
+            requires { IsSync R.row × IsSync G.row × (length clients.now < 2 ^ 32)
+                × AllByRecursion (λ c. answering.now.board.now ≡ numbers_of c.reader.book) clients.now }
+            ensures kept { AllZip KeepsClient clients.entry.now clients.exit.now }
+            ensures answered { OnOk result (AllZip HasAnswered clients.entry.now clients.exit.now) }
+        { work_all(rt, answering, 0, clients) },
+    );
+    if published.is_err() || answered.is_err() {
+        return Err(ServeFault::Memory);
+    }
+    Ok(())
+}
+
+/// Makes a board, on which the publisher leaves its notices, for the commands and the requests.
+#[tactic(auto, using(crate::proofs::Clients::kept_all))]
+fn run_all<R: Threads + Sync, G: Gate + Sync>(
+    rt: &R,
     alloc: Global,
     publisher: &mut Publisher,
     outcomes: &mut Vec<Outcome>,
@@ -65,26 +102,15 @@ fn run_both<R: Threads + Sync, G: Gate + Sync>(
     ensures kept { AllZip KeepsClient clients.old clients.new }
     ensures answered { OnOk result (AllZip HasAnswered clients.old clients.new) }
 {
-    let opening = publisher.tell();
+    let Ok(board) = Board::new(alloc, commands.len(), publisher.tell()) else {
+        return Err(ServeFault::Memory);
+    };
     let answering = Answering {
         gate,
         alloc,
-        opening: &opening,
+        board: &board,
     };
-    let (published, answered) = join_mut(
-        rt,
-        &mut || do_commands(gate, alloc, publisher, commands, outcomes),
-        &mut ||
-            requires { IsSync R.row × IsSync G.row × (length clients.now < 2 ^ 32)
-                × AllByRecursion (λ c. c.reader.book ≡ answering.opening.now.book) clients.now }
-            ensures kept { AllZip KeepsClient clients.entry.now clients.exit.now }
-            ensures answered { OnOk result (AllZip HasAnswered clients.entry.now clients.exit.now) }
-        { work_all(rt, &answering, 0, clients) },
-    );
-    if published.is_err() || answered.is_err() {
-        return Err(ServeFault::Memory);
-    }
-    Ok(())
+    run_both(rt, &answering, publisher, outcomes, commands, clients)
 }
 
 /// The commands and the requests at the same time, of readers that have seen what is published. Each of them enters
@@ -103,7 +129,7 @@ fn run_clients<R: Threads + Sync, G: Gate + Sync>(
     ensures does { OnOk result (DoesAll publisher.old commands.now outcomes.new.items publisher.new) }
     ensures served { OnOk result (AllZip (IsServed publisher.old.seen publisher.new.seen) clients.old clients.new) }
 {
-    run_both(rt, alloc, publisher, outcomes, commands, gate, clients)?;
+    run_all(rt, alloc, publisher, outcomes, commands, gate, clients)?;
     let closing = publisher.tell();
     settle_all(publisher, &closing, clients)?;
     Ok(())
@@ -129,7 +155,8 @@ fn open_clients(
 }
 
 /// Opens a store, with a reader for each list of requests. Does the commands in one thread while each list is answered
-/// in a thread of its own. Then each reader enters what is published, and the store ends.
+/// in a thread of its own. Then each reader enters what is published, and the store ends. The publisher leaves a notice
+/// after each command, which a request may have its reader learn first.
 ///
 /// The clause `promise` is that of `run_life`: for every list of loads and publishes and every schedule of the
 /// threads, each request acts as one step of one legal history, however many queries it looks up. A publish that fails

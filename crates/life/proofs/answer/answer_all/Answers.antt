@@ -17,8 +17,8 @@ loop-index-preserved g c =
     let told = c.in_ok-reply.ensures in
     let items : c.push.new.self.items ≡ replies ++ reply ∷ [] = search rules in
     let more : Replied first next (take (i + 1) requests) (replies ++ reply ∷ []) = replied_more first now next
-    requests i c.index-requests-index.result replies reply (search rules) c.index-requests-index.is inv.2 told.later
-    told.version told.texts in (
+    requests i c.index-requests-index.result replies reply (search rules) c.index-requests-index.is inv.2 told.told
+    told.answers in (
       told.book ∙ inv.0,
       begins_trans next now first told.later inv.1,
       subst (λ (l : List Reply). Replied first next (take (i + 1) requests) l) (sym items) more,

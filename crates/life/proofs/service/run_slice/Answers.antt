@@ -5,6 +5,11 @@ use Rattle.life.specs.Clients.{HasLearnt, IsServed}
 use Rattle.life.proofs.Clients.{kept_then, kept_book, learnt_kept, served_all}
 use Rattle.life.proofs.service.run_slice.Goals as goal
 
+pub run_all-requires-clause-book : goal.run_all-requires-clause-book
+run_all-requires-clause-book g c = λ κs lives.
+    kept_book c.args.publisher.now.seen c.tell-opening.new.self.seen _ _
+    (ap (λ p. p.seen.book) c.tell-opening.ensures.same) c.requires.book (learnt_kept _ _ _ c.learn_all.ensures)
+
 pub returns-in_err-run_all-clause-kept : goal.returns-in_err-run_all-clause-kept
 returns-in_err-run_all-clause-kept g c =
     kept_then _ _ _ (learnt_kept _ _ _ c.learn_all.ensures) c.run_all.ensures.kept

@@ -9,14 +9,14 @@ loop-index-preserved g c =
     let commands = c.args.commands.now in
     let i = c.loop-index.index in
     let command = c.index-commands-index.result in
-    let outcome = c.do_command-outcome.result in
+    let outcome = c.do_and_tell-outcome.result in
     let inv = c.loop-index.invariant in
     let s = c.args.publisher.now in
-    let t = c.do_command-outcome.new.publisher in
+    let t = c.do_and_tell-outcome.new.publisher in
     let items : c.push.new.self.items ≡ c.loop-index.outcomes.items ++ outcome ∷ [] = search rules in
     let more : DoesAll s (take (i + 1) commands) (c.loop-index.outcomes.items ++ outcome ∷ []) t = does_next s
     c.loop-index.publisher t commands i command c.loop-index.outcomes.items outcome (search rules)
-    c.index-commands-index.is inv.1 c.do_command-outcome.ensures.does in (
-      c.do_command-outcome.ensures.book ∙ inv.0,
+    c.index-commands-index.is inv.1 c.do_and_tell-outcome.ensures.does in (
+      c.do_and_tell-outcome.ensures.book ∙ inv.0,
       subst (λ (l : List Outcome). DoesAll s (take (i + 1) commands) l t) (sym items) more,
     )

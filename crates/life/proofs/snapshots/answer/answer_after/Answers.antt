@@ -1,5 +1,5 @@
 use Rattle.std.proofs.Common.{rules}
-use Rattle.life.proofs.snapshots.answer.answer.Goals as goal
+use Rattle.life.proofs.snapshots.answer.answer_after.Goals as goal
 
 pub returns-clause-version : goal.returns-clause-version
 returns-clause-version c = search rules

@@ -1,0 +1,6 @@
+use Rattle.std.proofs.Common.{◌≡◌}
+use Rattle.std.specs.List.{All}
+use Rattle.life.proofs.board.Board.newest.Given as goal
+
+abbrev pub invariant-slots : goal.invariant-slots
+invariant-slots g l = g.P.SlotRule.holds l.self l.newest × All (λ slot. slot.tag ≡ l.self) l.slot-items
