@@ -58,6 +58,7 @@ version = $(shell cat VERSION)
 # (each function of the library has a manual page, which is that of its group)
 functions = $(shell sed -n 's/^    \(kob_[a-z_]*\);/\1/p' c/library/kobdzila.map)
 library_pages = $(wildcard docs/man/*.3)
+references = $(wildcard docs/reference/*.md)
 
 EXAMPLES = fr pl
 PROGRAMS = msgfmt catserve catsession
@@ -156,7 +157,7 @@ strip = ! command -v $(STRIP) > /dev/null || $(STRIP)
 
 install: $(PROGRAMS:%=$(BIN)/%)
 	install -d "$(to)$(docdir)/reference"
-	install -m 644 docs/reference/*.md "$(to)$(docdir)/reference"
+	install -m 644 $(references) "$(to)$(docdir)/reference"
 	for name in $(PROGRAMS); do $(MAKE) -s install_program NAME=$$name || exit 1; done
 	if [ -f $(BIN)/$(DRIVER) ]; then $(MAKE) -s install_program NAME=$(DRIVER); fi
 	for name in $(KEPT_NAMES); do [ ! -f $(BIN)/$$name ] || $(MAKE) -s install_kept NAME=$$name || exit 1; done
@@ -220,7 +221,7 @@ uninstall: uninstall_library
 	for name in $(PROGRAMS) $(DRIVER); do rm -f "$(to)$(bindir)/$(PROGRAM_PREFIX)$$name"; done
 	for name in $(PROGRAMS) $(DRIVER); do rm -f "$(to)$(mandir)/man1/$(PROGRAM_PREFIX)$$name.1"; done
 	for name in $(COMPLETED); do $(MAKE) -s uninstall_completions AS="$(PROGRAM_PREFIX)$$name" || exit 1; done
-	for page in $(notdir $(wildcard docs/reference/*.md)); do rm -f "$(to)$(docdir)/reference/$$page"; done
+	for page in $(notdir $(references)); do rm -f "$(to)$(docdir)/reference/$$page"; done
 	rmdir "$(to)$(docdir)/reference" "$(to)$(docdir)" 2> /dev/null || true
 
 uninstall_completions:

@@ -16,6 +16,7 @@ build/ of the repository. MACHINE names another machine to build the wheel for (
 from __future__ import annotations
 
 import base64
+import functools
 import gzip
 import hashlib
 import io
@@ -29,6 +30,7 @@ import tarfile
 import tempfile
 import time
 import zipfile
+from collections.abc import Iterable
 from pathlib import Path
 from typing import Any
 
@@ -75,6 +77,21 @@ def run(*command: str) -> str:
 def of_machine(what: str) -> str:
     """Return what depends on the machine that is built for, by its name in tools/machine."""
     return run("sh", str(TOP / "tools/machine"), what).strip()
+
+
+@functools.cache
+def tracked() -> frozenset[Path] | None:
+    """Return the files that git tracks, or None where there is no clone: a source distribution has no other files."""
+    if TOP == HERE or not (TOP / ".git").exists():
+        return None
+    done = subprocess.run(["git", "-C", str(TOP), "ls-files", "-z"], capture_output=True, text=True)
+    return frozenset(TOP / it for it in done.stdout.split("\0")) if done.returncode == 0 else None
+
+
+def ours(paths: Iterable[Path]) -> list[Path]:
+    """Return the files of these that belong to the sources, without those that only happen to lie there, sorted."""
+    known = tracked()
+    return sorted(it for it in paths if it.is_file() and (known is None or it in known))
 
 
 def build_folder() -> Path:
@@ -132,7 +149,7 @@ def compile_extension(to: Path, *more: str) -> None:
     # (the names of the sources, which an error message may have, are those of the repository)
     flags = [*FLAGS, *hardened, f"-ffile-prefix-map={HERE}=./python", *shlex.split(os.environ.get("CFLAGS", "")), *more]
     run(*compiler, *flags, f"-I{TOP / 'include'}", f"-I{headers}", *configuration(headers, to.parent),
-        *map(str, sorted((HERE / "src").glob("*.c"))), str(archive), *LINKED, "-o", str(to))
+        *map(str, ours((HERE / "src").glob("*.c"))), str(archive), *LINKED, "-o", str(to))
 
 
 def system_of(extension: Path) -> str:
@@ -191,7 +208,7 @@ def entry_points() -> bytes:
 def members(extension: bytes, tag: str) -> dict[str, bytes]:
     """Return the files of the wheel but for RECORD, by their names in it."""
     files = {"kobdzila/_kobdzila.abi3.so": extension}
-    for path in (HERE / "src" / "kobdzila").rglob("*"):
+    for path in ours((HERE / "src" / "kobdzila").rglob("*")):
         if path.suffix in OF_PACKAGE or path.name == "py.typed":
             files[path.relative_to(HERE / "src").as_posix()] = path.read_bytes()
     program = catsession()
@@ -205,7 +222,7 @@ def members(extension: bytes, tag: str) -> dict[str, bytes]:
     files[f"{shared}/man/man1/kob-fleet.1"] = manual_page().encode()
     for shell, place in COMPLETIONS.items():
         files[f"{shared}/{place}"] = completions(shell).encode()
-    for path in (TOP / "packaging" / "systemd").glob("*.service"):
+    for path in ours((TOP / "packaging" / "systemd").glob("*.service")):
         files[f"{shared}/kobdzila/systemd/{path.name}"] = path.read_bytes()
     files[f"{info}/WHEEL"] = (
         f"Wheel-Version: 1.0\nGenerator: kobdzila ({VERSION})\nRoot-Is-Purelib: false\nTag: {tag}\n".encode()
@@ -263,13 +280,12 @@ def prepare_metadata_for_build_wheel(metadata_directory: str, config_settings: o
 def sources() -> dict[str, bytes]:
     """Return the files of the source distribution, by their names in it."""
     paths = {name: HERE / name for name in ("pyproject.toml", "wheel_backend.py", "README.md")}
-    for path in (HERE / "src").rglob("*"):
+    for path in ours((HERE / "src").rglob("*")):
         if path.suffix in (*OF_PACKAGE, ".c", ".h") or path.name == "py.typed":
             paths[path.relative_to(HERE).as_posix()] = path
     for name in OUTSIDE:
-        for path in [TOP / name, *(TOP / name).glob("*.service")]:
-            if path.is_file():
-                paths[path.relative_to(TOP).as_posix()] = path
+        for path in ours([TOP / name, *(TOP / name).glob("*.service")]):
+            paths[path.relative_to(TOP).as_posix()] = path
     machine = of_machine("machine")
     paths[f"lib/{machine}/libkobdzila.a"] = library()
     program = catsession()

@@ -1,9 +1,12 @@
 #!/usr/bin/env bash
 # What was built for aarch64 (`make MACHINE=aarch64`, which leaves it in build/aarch64), by an emulator of the first
-# processor that has its instructions: the scripts about msgfmt, catserve and catsession; the C library with threads, as a
-# static and as a shared library; libkobdzila-intl.so beside the C library's gettext; msgfmt-or-gnu, kob-compile and
-# kob-msgunfmt. The orders of the proved part's atomic steps and the hardening are read from the files. SCRIPTS=all runs
-# all scripts about these, which takes long.
+# processor that has its instructions: the scripts about msgfmt, catserve, catsession, msgfmt-or-gnu and kob-msgunfmt, and
+# those about the C library and its live store with threads; the shared library; libkobdzila-intl.so beside the C library's
+# gettext; kob-compile. The orders of the proved part's atomic steps and the hardening are read from the files.
+#
+#   tests/machine/aarch64.sh                  these
+#   SCRIPTS=all tests/machine/aarch64.sh      all scripts about what was built, but for those in $left, and the release
+#                                             (tests/project/release.sh); it takes an hour
 #
 # The emulator keeps the order of this machine's own memory, which is stronger than that of aarch64: a step that lacks its
 # order would not show when it runs, and so it is looked for in the instructions.
@@ -62,23 +65,37 @@ compiles() {
   return 1
 }
 
+# named: the lines of another script, as they are here
+named() {
+  sed -E 's/^(ok|FAILED|skipped) /\1 aarch64, /; s/: no (valgrind|strace)[ ,].*/: \1 sees the emulator, and not what it runs/'
+}
+
 # lines_of SCRIPT..: the lines of other scripts, over what was built for aarch64
 lines_of() {
   local it
-  for it in "$@"; do
-    tests/lib/emulated --built "tests/$it.sh" 2>&1 < /dev/null |
-      sed -E 's/^(ok|FAILED|skipped) /\1 aarch64, /; s/: no (valgrind|strace)[ ,].*/: \1 sees the emulator, and not what it runs/'
-  done
+  for it in "$@"; do tests/lib/emulated --built "tests/$it.sh" 2>&1 < /dev/null | named; done
 }
 
 # --- the scripts --------------------------------------------------------------------------------------------------------
 
-quick=(msgfmt/{rows,static} scripts/{stored,scripts,session} driver/or_gnu unfmt/unfmt)
-more=(msgfmt/{answers,command_lines,plain,replace,refused_programs,texts,gnu} scripts/{languages,serve,store}
-  driver/or_gnu_{charsets,formats,linked,log,texts} compile/compile intl/intl_{answers,chains,secure,threads}
-  library/c_{library,machine,sequences,server,store,trouble} mo/{mutated,revisions})
+quick=(msgfmt/{rows,static} scripts/{stored,scripts,session} driver/or_gnu unfmt/unfmt library/c_{library,store})
+# (what can't run so, and why)
+declare -A left=(
+  [library/c_musl]='Debian has no musl-gcc for aarch64'
+  [library/c_tsan]='ThreadSanitizer needs another layout of memory than the emulator has'
+  [msgfmt/answers]='its program, crates/test_answers, is built by the gate, for this machine'
+  [msgfmt/every_call]='its program, crates/test_every_call, is built by the gate, for this machine'
+  [msgfmt/processor]='it is about x86-64-v2; what was built runs here on the first processor of aarch64'
+)
 lines_of "${quick[@]}"
-[ "${SCRIPTS:-}" != all ] || lines_of "${more[@]}"
+if [ "${SCRIPTS:-}" = all ]; then
+  for it in tests/{msgfmt,scripts,driver,unfmt,compile,intl,library,mo}/*.sh; do
+    it=${it#tests/} it=${it%.sh}
+    case " ${quick[*]} " in *" $it "*) continue ;; esac
+    if [ -n "${left[$it]:-}" ]; then skipped "aarch64, $it" "${left[$it]}"; else lines_of "$it"; fi
+  done
+  tests/lib/emulated tests/project/release.sh 2>&1 < /dev/null | named
+fi
 
 # wrote NAME MO WANTED WORD..: the words end well, say nothing, and the file MO has the bytes of WANTED
 wrote() {
@@ -97,25 +114,9 @@ fi
 
 # --- the C library ------------------------------------------------------------------------------------------------
 
-static=$build/lib/libkobdzila.a wrapped=-Wl,--wrap=malloc,--wrap=realloc,--wrap=free
 compiles c_machine -static -Ic/machine -Ic/library tests/library/c_machine.c c/machine/*.c c/library/memory.c \
   -Wl,--wrap=malloc,--wrap=realloc &&
   for it in memory 'words a bc' cause; do runs "c/machine, $it" "$room/c_machine" $it; done
-compiles c_library -static tests/library/c_library.c "$static" && {
-  runs 'the C library, each function and each refusal' "$room/c_library" calls
-  runs 'the C library, 4 threads and 10,000 swaps' "$room/c_library" threads
-  runs 'the C library, bytes that change meanwhile' "$room/c_library" changing
-}
-compiles c_store -static tests/library/c_store.c "$static" $wrapped && {
-  runs 'the live store, each function and each refusal' "$room/c_store" calls
-  runs 'the live store, each request for memory refused' "$room/c_store" memory
-}
-compiles c_store_threads -static tests/library/c_store_threads.c "$static" $wrapped && {
-  runs 'the live store, 1,000 publishes and 16 threads' "$room/c_store_threads" one 1000
-  runs 'the live store, the same with memory refused' "$room/c_store_threads" one 200 97
-  runs 'the live store, four threads that publish' "$room/c_store_threads" several 100
-  runs 'the live store, a publisher that is stopped' "$room/c_store_threads" stopped 100
-}
 emulator+=(-E "LD_LIBRARY_PATH=$top/$build/lib")
 compiles shared tests/library/c_library.c -L"$build/lib" -lkobdzila &&
   runs 'the shared library, each function and each refusal' "$room/shared" calls

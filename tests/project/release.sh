@@ -4,10 +4,18 @@
 # is installed and removed without root; and the Debian packages are the same bytes twice, and pass lintian.
 #
 # tests/project/debian tries both in minimal systems of several Debian releases; it isn't a part of `make check`.
+#
+# MACHINE=aarch64 looks at the release for that machine, but for the site and the crates, which aren't part of it. It runs
+# in tests/lib/emulated then: tests/machine/aarch64.sh calls it.
 no_program=1
 . "$(dirname "$0")/../lib/common"
+eval "$(tools/machine)"
 version=$(cat VERSION)
-name=kobdzila-$version-$(uname -m)-linux
+name=kobdzila-$version-$machine-linux
+if [ -n "$other" ]; then
+  QEMU_LD_PREFIX=$(dirname "$(dirname "$("$cc" -print-file-name=libc.so.6)")")
+  export QEMU_LD_PREFIX
+fi
 
 # says NAME WANTED GOT
 says() { if [ "$2" = "$3" ]; then ok "$1"; else failed "$1" "'$3' and not '$2'"; fi; }
@@ -16,21 +24,23 @@ says() { if [ "$2" = "$3" ]; then ok "$1"; else failed "$1" "'$3' and not '$2'";
 
 says 'version: kobdzila.h' "$version" "$(sed -n 's/^#define KOB_VERSION "\(.*\)"/\1/p' include/kobdzila.h)"
 says 'version: CHANGELOG.md' 1 "$(grep -c "^## \[$version\]" CHANGELOG.md)"
-if [ -f build/lib/libkobdzila.so.0 ] && command -v python3 > /dev/null; then
+if [ -n "$other" ]; then
+  skipped 'version: the library and the Python module' "this machine's python3 loads no library of another"
+elif [ -f build/lib/libkobdzila.so.0 ] && command -v python3 > /dev/null; then
   says 'version: the library and the Python module' "$version" "$(LIBKOBDZILA=$PWD/build/lib/libkobdzila.so.0 \
     PYTHONPATH=examples/python python3 -B -c 'import kobdzila_ctypes; print(kobdzila_ctypes.__version__)' 2>&1 | tail -n 1)"
 else
   skipped 'version: the library and the Python module' 'no library was built, or there is no python3'
 fi
-if [ -x bin/catsession ]; then
-  says 'version: catsession' "catsession (Kobdzila) $version" "$(bin/catsession --version 2>&1)"
+if [ -x "$bin/catsession" ]; then
+  says 'version: catsession' "catsession (Kobdzila) $version" "$("$bin/catsession" --version 2>&1)"
 else
   skipped 'version: catsession' 'it was not built'
 fi
 
 for it in kob-compile kob-msgunfmt; do
-  if [ -x bin/$it ]; then
-    says "version: $it" "$it (Kobdzila) $version" "$(bin/$it --version 2>&1)"
+  if [ -x "$bin/$it" ]; then
+    says "version: $it" "$it (Kobdzila) $version" "$("$bin/$it" --version 2>&1)"
   else
     skipped "version: $it" 'it was not built'
   fi
@@ -38,8 +48,8 @@ done
 
 # --- the C interface ----------------------------------------------------------------------------------------------
 
-if command -v python3 > /dev/null && command -v readelf > /dev/null && [ -f build/lib/libkobdzila.so.0 ]; then
-  if said=$(tests/library/c_interface.py build/lib/libkobdzila.so.0 2>&1); then
+if command -v python3 > /dev/null && command -v readelf > /dev/null && [ -f "$build/lib/libkobdzila.so.0" ]; then
+  if said=$(tests/library/c_interface.py "$build/lib/libkobdzila.so.0" 2>&1); then
     ok "the C interface: $said"
   else
     failed 'the C interface' "$said"
@@ -54,7 +64,7 @@ if ! git rev-parse HEAD > /dev/null 2>&1; then
   skipped 'the release' 'this is no clone with git'
   exit 0
 fi
-if [ ! -x build/static/msgfmt ] || [ ! -f build/lib/libkobdzila.so.0 ]; then
+if [ ! -x "$build/static/msgfmt" ] || [ ! -f "$build/lib/libkobdzila.so.0" ]; then
   skipped 'the release' 'no static programs were built: there is no C compiler, or no static C library'
   exit 0
 fi
@@ -65,8 +75,9 @@ copied() {
   git clone -q -n --no-hardlinks . "$1"
   {
     git ls-files -z
-    find bin build/static build/lib ! -type d -print0
-    [ ! -f "$(tools/machine core)" ] || printf '%s\0' "$(tools/machine core)"
+    find "$bin" "$build"/{static,lib} ! -type d -print0
+    [ ! -d "$build/proved" ] || find "$build/proved" -type f -print0
+    [ -n "$other" ] || [ ! -f "$core" ] || printf '%s\0' "$core"
   } | tar --null -T - -cf - | tar -C "$1" "${@:2}" -xf -
   git -C "$1" add -A
 }
@@ -75,22 +86,28 @@ copied() {
 as_another() {
   local folder=$1
   shift
-  set -- env -i PATH="$PATH" HOME="$folder" TZ=Asia/Kathmandu LC_ALL=C.UTF-8 ${RT:+RT="$RT"} ${CC:+CC="$CC"} "$@"
+  set -- env -i PATH="$PATH" HOME="$folder" TZ=Asia/Kathmandu LC_ALL=C.UTF-8 ${RT:+RT="$RT"} ${CC:+CC="$CC"} \
+    ${MACHINE:+MACHINE="$MACHINE"} "$@"
   [ "$(id -u)" != 0 ] || { chown -R nobody "$folder" && set -- setpriv --reuid=nobody --regid=65534 --clear-groups "$@"; }
   (cd "$folder" && umask 077 && "$@")
 }
 
 chmod 755 "$room"
 copied "$room/one"
-# (files that git doesn't know, which no release may have)
-for it in docs/guide examples/c rust/src rust/kobdzila-sys/src python/src/kobdzila; do
-  echo 'SECRET=1' > "$room/one/$it/.env"
-  echo 'secret' > "$room/one/$it/stray.md"
+# (files that git doesn't know, which no release may have: of each folder that one is made of, and of each ending; the text
+# is no C, so a compiler that were given one would say so)
+for it in . bin build build/lib c/driver c/library docs docs/{guide,images,internals,man,reference} examples examples/{c,python} \
+  include packaging packaging/{debian,systemd} python python/src python/src/kobdzila{,/fleet} rust rust/{src,examples,kobdzila-sys} \
+  rust/kobdzila-sys/src tools tools/completion; do
+  mkdir -p "$room/one/$it/stray/target"
+  for ending in .md .py .pyc .c .h .o .rs .3 .1 .service .mo .svg '~'; do
+    echo 'SECRET=1' | tee "$room/one/$it/.env" "$room/one/$it/stray/target/stray$ending" > "$room/one/$it/stray$ending"
+  done
 done
 copied "$room/another/folder" --touch
 # (a site of one page, as it is made; tests/project/site.sh makes all of it)
 for it in "$room/one" "$room/another/folder"; do
-  mkdir "$it/build/html"
+  mkdir -p "$it/build/html"
   echo '<!doctype html>' > "$it/build/html/index.html"
   printf 'Sphinx: 5.3.0\nfuro: 2022.12.07\n' > "$it/build/html/made-by.txt"
 done
@@ -118,38 +135,47 @@ says 'proved anew: the verdict of each crate' 'one one,tests another_crate' \
 anew='Anew:       2 crates, 47 functions; trusted: logic-built, statements, libraries-built; 7 passed, 0 failed'
 says 'proved anew: their sum' "$anew" "$(tail -n 1 <<< "$said")"
 said=$(cd "$room/one" && tools/dist --as-built 2>&1)
-if [ ! -f "$room/one/build/dist/$name.tar.gz" ]; then
+if [ ! -f "$room/one/$build/dist/$name.tar.gz" ]; then
   failed 'the tarball' "$said"
   exit 0
 fi
-tarball=$room/one/build/dist/$name.tar.gz
+tarball=$room/one/$build/dist/$name.tar.gz
 # (the other user may have Debian's cargo alone, which can't pack a crate that needs the other one)
 mkdir "$room/no_cargo"
 script no_cargo/cargo 'exit 1'
 said=$(PATH=$room/no_cargo:$PATH as_another "$room/another/folder" tools/dist --as-built 2>&1)
-other=$room/another/folder/build/dist/$name.tar.gz
+second=$room/another/folder/$build/dist/$name.tar.gz
 whom='two users'
 [ "$(id -u)" = 0 ] || whom='one user'
-if cmp "$tarball" "$other" > "$room/cmp" 2>&1; then
+if cmp "$tarball" "$second" > "$room/cmp" 2>&1; then
   ok "the tarball: the same bytes in two folders, by $whom"
 else
   failed "the tarball: the same bytes in two folders, by $whom" "$(cat "$room/cmp"); $said"
 fi
 says 'the tarball: it names the run that proved it anew' "$anew" "$(tar -xzOf "$tarball" "$name/PROVENANCE" | grep ^Anew)"
-html=kobdzila-$version-html
-if cmp {"$room/one","$room/another/folder"}"/build/dist/$html.tar.gz" > "$room/cmp" 2>&1; then
-  ok "the site: the same bytes in two folders, by $whom"
-else
-  failed "the site: the same bytes in two folders, by $whom" "$(cat "$room/cmp"); $said"
+says 'the tarball: it names what it was built for' "$target" "$(tar -xzOf "$tarball" "$name/PROVENANCE" | sed -n 's/^Target: *//p')"
+if [ -n "$other" ]; then
+  says 'the tarball: it names the proof of each crate for that machine' 'catserve_program catsession kobdzila_c msgfmt' \
+    "$(tar -xzOf "$tarball" "$name/PROVENANCE" | sed -n "s/^Proved: *\([a-z_]*\): logic=proved .* target=$target .*/\1/p" | sort | paste -sd ' ')"
 fi
-# (the tarball has the owner and the time of its files, and the site has to have the same)
-says 'the site: packed as the tarball is, with its page and what made it' \
-  "$(tar --full-time --numeric-owner -tvzf "$tarball" "$name/README.md" | awk '{ print $2, $4, $5 }') $html/index.html $html/made-by.txt" \
-  "$(tar --full-time --numeric-owner -tvzf "$room/one/build/dist/$html.tar.gz" | awk '!/\/$/ { at = $2 " " $4 " " $5; names = names " " $6 } END { print at names }')"
-says 'the site: its line in SHA256SUMS' "$html.tar.gz: OK" \
-  "$(cd "$room/one/build/dist" && sha256sum -c SHA256SUMS 2>&1 | grep -F "$html")"
+html=kobdzila-$version-html
+# site: the site is packed as the tarball is, and the same by another user
+site() {
+  if cmp {"$room/one","$room/another/folder"}"/build/dist/$html.tar.gz" > "$room/cmp" 2>&1; then
+    ok "the site: the same bytes in two folders, by $whom"
+  else
+    failed "the site: the same bytes in two folders, by $whom" "$(cat "$room/cmp"); $said"
+  fi
+  # (the tarball has the owner and the time of its files, and the site has to have the same)
+  says 'the site: packed as the tarball is, with its page and what made it' \
+    "$(tar --full-time --numeric-owner -tvzf "$tarball" "$name/README.md" | awk '{ print $2, $4, $5 }') $html/index.html $html/made-by.txt" \
+    "$(tar --full-time --numeric-owner -tvzf "$room/one/$build/dist/$html.tar.gz" | awk '!/\/$/ { at = $2 " " $4 " " $5; names = names " " $6 } END { print at names }')"
+  says 'the site: its line in SHA256SUMS' "$html.tar.gz: OK" \
+    "$(cd "$room/one/$build/dist" && sha256sum -c SHA256SUMS 2>&1 | grep -F "$html")"
+}
+[ -n "$other" ] || site
 mkdir "$room/published"
-cp "$room"/one/build/dist/* "$room/published" 2> /dev/null
+cp "$room/one/$build"/dist/* "$room/published" 2> /dev/null
 if said=$(cd "$room/one" && tools/verify_release --as-built "$room/published/$name.tar.gz" 2>&1); then
   ok "the tarball and what comes with it: $(grep -c 'every byte is the same' <<< "$said") files verified"
 else
@@ -159,7 +185,8 @@ printf x >> "$room/published/$name.oci.tar"
 # remade SED FOLDER: the site, of which other tools say that they made it, or which has another page, in FOLDER
 remade() {
   mkdir -p "$2"
-  tar -xzf "$room/one/build/dist/$html.tar.gz" -C "$2"
+  [ -z "$other" ] || return 0
+  tar -xzf "$room/one/$build/dist/$html.tar.gz" -C "$2"
   sed -i "$1" "$2/$html"/*
   tar -czf "$2/$html.tar.gz" -C "$2" "$html"
 }
@@ -171,16 +198,19 @@ elif grep -qx "$name.oci.tar: it differs" <<< "$said"; then
 else
   failed 'what comes with the tarball: a changed file is found' "$said"
 fi
-says 'the site: not compared where other tools made it' \
+[ -n "$other" ] || says 'the site: not compared where other tools made it' \
   "$html.tar.gz: not compared, since other tools made it: Sphinx: 7.2.6; here: Sphinx: 5.3.0" "$(grep -F "$html" <<< "$said")"
-if ! cargo --version > /dev/null 2>&1; then
+if [ -n "$other" ]; then
+  says 'the site, the crates and the source distribution are left to the other release' '' \
+    "$(find "$room/one/$build/dist" -name '*.crate' -o -name '*html*' -o -name "kobdzila-$version.tar.gz")"
+elif ! cargo --version > /dev/null 2>&1; then
   skipped 'the crates for Rust' 'no cargo'
 else
   for folder in rust rust/kobdzila-sys; do
     crate=kobdzila${folder#rust}
     crate=${crate/\/kobdzila/}-$version
-    if said=$(cd "$room/one/build/dist" && sha256sum -c SHA256SUMS 2>&1) && grep -qx "$crate.crate: OK" <<< "$said" &&
-      tar -xzOf "$room/one/build/dist/$crate.crate" "$crate/src/lib.rs" | cmp -s - $folder/src/lib.rs; then
+    if said=$(cd "$room/one/$build/dist" && sha256sum -c SHA256SUMS 2>&1) && grep -qx "$crate.crate: OK" <<< "$said" &&
+      tar -xzOf "$room/one/$build/dist/$crate.crate" "$crate/src/lib.rs" | cmp -s - $folder/src/lib.rs; then
       ok "the crate $crate for Rust: packed, with its line in SHA256SUMS"
     else
       failed "the crate $crate for Rust: packed, with its line in SHA256SUMS" "$said"
@@ -195,10 +225,22 @@ if said=$(cd "$room/unpacked/$name" && sha256sum --quiet -c SHA256SUMS 2>&1 && c
 else
   failed 'the tarball: SHA256SUMS has each file' "$said"
 fi
-stray=$(find "$room/unpacked" -name .env -o -name stray.md)
-for it in "$room"/one/build/dist/*.crate; do [ ! -f "$it" ] || stray+=$(tar -tzf "$it" | grep -E '\.env|stray'); done
-for it in "$room"/one/build/dist/*.whl; do [ ! -f "$it" ] || stray+=$(unzip -l "$it" | grep -E '\.env|stray'); done
-says 'the tarball, the crates and the wheel: no file that git does not know' '' "$stray"
+# names FILE..: what the archives of a release have, one name on each line
+names() {
+  local it
+  for it in "$@"; do
+    case $it in
+      *.tar.gz | *.crate) tar -tzf "$it" ;;
+      *.whl) python3 -m zipfile -l "$it" ;;
+      *.deb) dpkg-deb -c "$it" ;;
+    esac
+  done
+}
+archives=("$room/one/$build"/dist/*.{tar.gz,crate,whl})
+[ -z "$other" ] || archives=("$room/one/$build"/dist/*.{tar.gz,whl})
+said=$(names "${archives[@]}" 2>&1)
+says "the tarball and what comes with it, $(wc -l <<< "$said") names in ${#archives[@]} files: none that git does not know" '' \
+  "$(grep -E '\.env|stray' <<< "$said")"
 if said=$(tools/linked_pages --check "$room/unpacked/$name"); then
   ok "the tarball: each link of its $(find "$room/unpacked/$name" -name '*.md' | wc -l) pages leads somewhere"
 else
@@ -213,7 +255,7 @@ fi
 
 # --- the image for containers, the list of what is inside, the signature --------------------------------------------
 
-image=$room/one/build/dist/$name.oci.tar
+image=$room/one/$build/dist/$name.oci.tar
 mkdir "$room/image" "$room/root"
 tar -xf "$image" -C "$room/image"
 # digest JSON WORD..: the digest of a file of the image, as the fields of another file name it
@@ -243,8 +285,8 @@ if tests/lib/needs skopeo skopeo; then
 else
   skipped 'the image: skopeo reads it' 'no skopeo, and it could not be installed'
 fi
-list=$room/one/build/dist/kobdzila-$version.spdx.json
-if said=$(python3 - "$list" "$room/one/build/dist" << 'END'
+list=$room/one/$build/dist/kobdzila-$version${other:+-$machine}.spdx.json
+if said=$(python3 - "$list" "$room/one/$build/dist" << 'END'
 import hashlib, json, sys
 from pathlib import Path
 spdx = json.loads(Path(sys.argv[1]).read_text())
@@ -279,12 +321,12 @@ if tests/lib/needs ssh-keygen openssh-client; then
   ssh-keygen -q -t ed25519 -N '' -C maintainers -f "$room/key"
   echo "maintainers $(cut -d ' ' -f 1,2 "$room/key.pub")" > "$room/signers"
   checks() { ssh-keygen -Y verify -f "$room/signers" -I maintainers -n kobdzila-release -s SHA256SUMS.sig < SHA256SUMS; }
-  if said=$(cd "$room/one" && make -s sign KEY="$room/key" 2>&1 && cd build/dist && checks 2>&1); then
+  if said=$(cd "$room/one" && make -s sign KEY="$room/key" 2>&1 && cd "$build/dist" && checks 2>&1); then
     ok 'the signature: checked by ssh-keygen'
   else
     failed 'the signature: checked by ssh-keygen' "$said"
   fi
-  if said=$(cd "$room/one/build/dist" && sed -i 's/^./x/' SHA256SUMS && checks 2>&1); then
+  if said=$(cd "$room/one/$build/dist" && sed -i 's/^./x/' SHA256SUMS && checks 2>&1); then
     failed 'the signature: a changed sum is found' 'it is not'
   else
     ok 'the signature: a changed sum is found'
@@ -299,7 +341,7 @@ cp -R "$room/unpacked/$name" "$room/changed"
   find . -type f ! -name SHA256SUMS | sort | sed 's|^\./||' | xargs sha256sum > SHA256SUMS)
 (cd "$room/changed" && tar -czf "$name.tar.gz" "$name")
 remade 's/doctype/DOCTYPE/' "$room/changed"
-grep -F "$html" "$room/one/build/dist/SHA256SUMS" > "$room/changed/SHA256SUMS"
+grep -F "$html" "$room/one/$build/dist/SHA256SUMS" > "$room/changed/SHA256SUMS"
 if said=$(cd "$room/one" && tools/verify_release --as-built "$room/changed/$name.tar.gz" 2>&1); then
   failed 'the tarball: a changed program is found' 'it passed'
 elif grep -q 'bin/msgfmt differ' <<< "$said"; then
@@ -307,12 +349,13 @@ elif grep -q 'bin/msgfmt differ' <<< "$said"; then
 else
   failed 'the tarball: a changed program is found' "$said"
 fi
-says 'the site: a changed page is found' "$html.tar.gz: it differs" "$(grep -F "$html" <<< "$said")"
+[ -n "$other" ] || says 'the site: a changed page is found' "$html.tar.gz: it differs" "$(grep -F "$html" <<< "$said")"
 
 # make verify, by a toolchain that doesn't prove: it hands out what was built here
 proved_before=yes
-for it in msgfmt/out/msgfmt catserve_program/out/catserve_program catsession/out/catsession; do
-  [ -f "crates/$it" ] && [ -f "crates/$it.o" ] || proved_before=
+for it in msgfmt catserve_program catsession; do
+  if [ -n "$other" ]; then [ -f "$build/proved/$it.o.verdict" ] || proved_before=
+  else [ -f "crates/$it/out/$it" ] && [ -f "crates/$it/out/$it.o" ] || proved_before=; fi
 done
 cat > "$room/rt" << END
 #!/bin/sh
@@ -324,20 +367,27 @@ for it in "\$name" "\$name.o" "lib\$name.a"; do
 done
 END
 chmod +x "$room/rt"
-if [ -z "$proved_before" ] || [ ! -f crates/kobdzila_c/out/libkobdzila_c.a ]; then
-  skipped 'make verify' 'no program of crates/ with its object file is here, as `make check` leaves them'
+if [ -z "$proved_before" ] || [ ! -f "$core" ]; then
+  skipped 'make verify' 'no program with its object file is here, as `make check` leaves them'
 else
   copied "$room/made"
+  # (what is proved for another machine is handed out as well)
+  [ -z "$other" ] || printf '#!/bin/sh\nmkdir -p "${2%%/*}" && cp -p "%s/%s/proved/${2##*/}"* "${2%%/*}"\n' "$PWD" "$build" \
+    > "$room/made/tools/over_gate"
   # (in place of Sphinx, which takes a minute)
   cat > "$room/made/tools/site" << 'END'
 #!/bin/sh
 [ "$1" = --needs ] || { mkdir "$1" && echo 'Sphinx: 5.3.0' > "$1/made-by.txt"; }
 END
   git -C "$room/made" -c user.name=test -c user.email=test commit -q -a --allow-empty -m sources
+  : > "$room/made/c/driver/stray.c"
+  says 'the tarball: a file in C that git does not know is refused' \
+    "tools/dist: git doesn't know c/driver/stray.c: a release is made of a commit" "$(cd "$room/made" && RT=$room/rt tools/dist 2>&1)"
+  rm "$room/made/c/driver/stray.c"
   if said=$(cd "$room/made" && export RT=$room/rt && tools/dist 2>&1 &&
-    timeout 300 tools/verify_release "build/dist/$name.tar.gz" 2>&1) &&
+    timeout 300 tools/verify_release "$build/dist/$name.tar.gz" 2>&1) &&
     [ "$(tail -n 1 <<< "$said")" = "$name.tar.gz: every byte is the same" ] &&
-    grep -qx "$html.tar.gz: every byte is the same" <<< "$said"; then
+    { [ -n "$other" ] || grep -qx "$html.tar.gz: every byte is the same" <<< "$said"; }; then
     ok 'make verify'
   else
     failed 'make verify' "$(tail -n 3 <<< "$said")"
@@ -409,10 +459,10 @@ links() {
   export PKG_CONFIG_PATH=$2/lib/pkgconfig
   says "$1: pkg-config knows the version" "$version" "$(pkg-config --modversion kobdzila 2>&1)"
   read -r -a flags < <(pkg-config --cflags --libs kobdzila)
-  said=$(cc -o "$room/shared" tests/lib/installed.c "${flags[@]}" 2>&1 && LD_LIBRARY_PATH=$2/lib "$room/shared" tests/lib/installed.po 2>&1)
+  said=$("$cc" -o "$room/shared" tests/lib/installed.c "${flags[@]}" 2>&1 && LD_LIBRARY_PATH=$2/lib "$room/shared" tests/lib/installed.po 2>&1)
   says "$1: a program in C" "$version: fichiers" "$said"
   read -r -a flags < <(pkg-config --cflags kobdzila)
-  said=$(cc -o "$room/static" tests/lib/installed.c "${flags[@]}" "$2/lib/libkobdzila.a" 2>&1 && "$room/static" tests/lib/installed.po 2>&1)
+  said=$("$cc" -o "$room/static" tests/lib/installed.c "${flags[@]}" "$2/lib/libkobdzila.a" 2>&1 && "$room/static" tests/lib/installed.po 2>&1)
   says "$1: a program in C, with the static library" "$version: fichiers" "$said"
 }
 
@@ -434,12 +484,13 @@ if ! tests/lib/needs dh debhelper dpkg-dev; then
   exit 0
 fi
 tests/lib/needs lintian lintian
+architecture=$(dpkg-architecture -q DEB_HOST_ARCH ${other:+-t "$machine-linux-gnu"} 2> /dev/null)
 as_another "$room/another/folder" tools/deb --as-built > "$room/other_deb" 2>&1 &
 (cd "$room/one" && tools/deb --as-built) > "$room/deb" 2>&1
 status=$?
 wait
 if [ "$status" = 0 ]; then
-  ok "the Debian packages: $(find "$room/one/build/deb" -name '*.deb' | wc -l)"
+  ok "the Debian packages: $(find "$room/one/$build/deb" -name "*_$architecture.deb" | wc -l) for $architecture"
 else
   failed 'the Debian packages' "$(grep -v '^[IW]:' "$room/deb" | tail -n 5)"
 fi
@@ -450,8 +501,10 @@ elif grep -q '^[EW]: ' "$room/deb"; then
 else
   ok 'the Debian packages, lintian: no error and no warning'
 fi
-if cmp "$room"/one/build/deb/SHA256SUMS "$room"/another/folder/build/deb/SHA256SUMS > "$room/cmp" 2>&1; then
+if cmp {"$room/one","$room/another/folder"}"/$build/deb/SHA256SUMS" > "$room/cmp" 2>&1; then
   ok "the Debian packages: the same bytes in two folders, by $whom"
 else
   failed "the Debian packages: the same bytes in two folders, by $whom" "$(cat "$room/cmp" "$room/other_deb" | tail -n 5 | tr '\n' ' ')"
 fi
+says 'the Debian packages: no file that git does not know' '' \
+  "$(names "$room/one/$build"/deb/*.deb | grep -E '\.env|stray')"
