@@ -1,5 +1,5 @@
 -- The digits at the front of a text, as a run.
-use Rattle.std.proofs.Common.{◌≡◌, ℕ, List, sym, subst}
+use Rattle.std.proofs.Common.{◌≡◌, ℕ, List}
 use Rattle.std.specs.Char.{is_ascii_digit}
 use Rattle.format_arguments.specs.Bytes.{run, behind}
 use Rattle.c_signature.specs.FormatScanning.{IsRun}

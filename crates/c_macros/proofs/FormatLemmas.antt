@@ -1,7 +1,7 @@
 -- Whole texts: at most one list of arguments, and the list of a text without macros.
-use Rattle.std.proofs.Common.{◌≡◌, ℕ, zero, suc, ◌+◌, ◌<◌, List, [], ◌∷◌, ◌++◌, map, length, Some}
+use Rattle.std.proofs.Common.{◌≡◌, ℕ, zero, suc, List, [], ◌∷◌, ◌++◌, map, length, Some}
 use Rattle.std.proofs.Common.{refl, sym, ap, subst, ◌∙◌, arith, inl, inr}
-use Rattle.std.specs.Prelude.{Contains, slice_get}
+use Rattle.std.specs.Prelude.{slice_get}
 use Rattle.std.specs.List.{flat_map}
 use Rattle.format_arguments.specs.Text.{IsFormat, SkipsPlain}
 use Rattle.format_arguments.proofs.TextLemmas.{one_asked}
@@ -13,8 +13,8 @@ use Rattle.c_signature.proofs.RequestLemmas.{contains_map, map_contains}
 use Rattle.c_macros.specs.declared.Kind.{Kind}
 use Rattle.c_macros.specs.declared.Kind.TheVariants.{Plain}
 use Rattle.c_macros.specs.declared.requests.Request.{Request}
-use Rattle.c_macros.specs.MacroDirectives.{Directive, Spelled, DirectiveAt, requests, plain_request}
-use Rattle.c_macros.specs.MacroFormat.{InOrder, ByNumber, HasPlace, AsksFor, Lists}
+use Rattle.c_macros.specs.MacroDirectives.{Spelled, DirectiveAt, requests, plain_request}
+use Rattle.c_macros.specs.MacroFormat.{HasPlace, AsksFor, Lists}
 use Rattle.c_macros.proofs.MacroDirectiveLemmas.{are_directives}
 use Rattle.c_macros.proofs.ListLemmas.{one_list}
 

@@ -1,7 +1,7 @@
 -- The list of what is asked for: where there is one, and that there is one at most.
-use Rattle.std.proofs.Common.{◌≡◌, ℕ, zero, suc, ◌+◌, ◌-◌, ◌<◌, ◌≤◌, List, [], ◌∷◌, ◌++◌, map, length, take}
-use Rattle.std.proofs.Common.{drop, get_or, Option, None, Some, refl, sym, ap, subst, ◌∙◌, arith, inl, inr, true, false}
-use Rattle.std.specs.Prelude.{Contains, slice_get, ◌⊎◌, ◌||◌}
+use Rattle.std.proofs.Common.{◌≡◌, ℕ, zero, suc, ◌+◌, ◌<◌, ◌≤◌, List, [], ◌∷◌, ◌++◌, map, length, take}
+use Rattle.std.proofs.Common.{drop, get_or, Option, None, Some, refl, sym, ap, ◌∙◌, arith, inl, inr, true, false}
+use Rattle.std.specs.Prelude.{Contains, slice_get, ◌⊎◌}
 use Rattle.std.specs.List.{list_any}
 use Rattle.std.specs.Option.{unwrap_or}
 use Rattle.std.specs.List.Sorted.{IsPermutation}
@@ -16,7 +16,6 @@ use Rattle.c_macros.specs.declared.Kind.{Kind}
 use Rattle.c_macros.specs.declared.MacroFault.{MacroFault}
 use Rattle.c_macros.specs.declared.MacroFault.TheVariants.{Invalid, Memory}
 use Rattle.c_macros.specs.declared.requests.Request.{Request}
-use Rattle.c_macros.specs.MacroDirectives.{request}
 use Rattle.c_macros.specs.MacroFormat.{InOrder, ByNumber, HasPlace, AsksFor}
 use Rattle.c_macros.specs.MacroScanning.{is_numbered, IsRising, IsInvalidOnly}
 

@@ -1,9 +1,9 @@
 -- Directives with and without macros: a text begins with at most one, and its parts have one place.
-use Rattle.std.proofs.Common.{◌≡◌, ℕ, ◌+◌, ◌<◌, ◌≤◌, ◌-◌, List, [], ◌∷◌, ◌++◌, length, Option}
+use Rattle.std.proofs.Common.{◌≡◌, ℕ, ◌+◌, ◌<◌, ◌≤◌, ◌-◌, List, [], ◌∷◌, ◌++◌, length}
 use Rattle.std.proofs.Common.{refl, sym, ap, subst, ◌∙◌, arith}
 use Rattle.std.proofs.lemmas.List.{length-append}
 use Rattle.format_arguments.specs.Text.{AreDirectives}
-use Rattle.c_signature.specs.Pieces.{Longest, NumberForm, FlagsForm, percent}
+use Rattle.c_signature.specs.Pieces.{Longest, NumberForm, percent}
 use Rattle.c_signature.specs.Directives as c
 use Rattle.c_signature.specs.Directives.{Head, HeadAt, TailAt}
 use Rattle.c_signature.proofs.PartLemmas.{longest_one, number_value}

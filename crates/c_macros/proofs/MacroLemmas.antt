@@ -1,10 +1,9 @@
 -- Macros: a text begins with at most one, and which readings are none.
-use Rattle.std.proofs.Common.{◌≡◌, ℕ, ◌<◌, ◌≤◌, true, false, List, [], ◌∷◌, ◌++◌, length, take, drop}
-use Rattle.std.proofs.Common.{Option, None, Some, refl, sym, ap, subst, ◌∙◌, arith, append_assoc}
+use Rattle.std.proofs.Common.{◌≡◌, ℕ, ◌<◌, true, List, [], ◌∷◌, ◌++◌, length}
+use Rattle.std.proofs.Common.{Some, refl, sym, ap, subst, ◌∙◌, arith, append_assoc}
 use Rattle.std.specs.Prelude.{codes}
-use Rattle.std.specs.Str.{bytes_eq}
 use Rattle.std.proofs.lemmas.List.{append_cancel_left, length-append}
-use Rattle.c_signature.specs.Directives.{BeginsMacro, is_name_byte, is_macro_conversion}
+use Rattle.c_signature.specs.Directives.{is_name_byte, is_macro_conversion}
 use Rattle.c_signature.specs.FormatScanning.{IsRun}
 use Rattle.c_signature.proofs.Runs.{one_run}
 use Rattle.c_macros.specs.declared.Kind.{Kind}

@@ -1,26 +1,22 @@
 -- What the readers of heads, tails and directives return, and what is no directive.
-use Rattle.std.proofs.Common.{◌≡◌, ℕ, ◌+◌, ◌-◌, ◌<◌, ◌≤◌, List, [], ◌∷◌, ◌++◌, map, length, Option, None, Some}
+use Rattle.std.proofs.Common.{◌≡◌, ℕ, ◌-◌, ◌≤◌, List, [], ◌∷◌, ◌++◌, map, length, Option, None, Some}
 use Rattle.std.proofs.Common.{refl, sym, ap, subst, ◌∙◌, arith}
 use Rattle.std.proofs.lemmas.List.{append-nil}
 use Rattle.c_signature.specs.Pieces.{Modifier, Longest, NumberForm, FlagsForm, WidthForm, PrecisionForm, ModifierForm}
 use Rattle.c_signature.specs.Pieces.{percent}
 use Rattle.c_signature.specs.Conversions.{Argument, Undefined, Nothing, One, argument_of}
-use Rattle.c_signature.specs.Directives as c
-use Rattle.c_signature.specs.Directives.{Head, HeadAt, TailAt, IsAllowed}
+use Rattle.c_signature.specs.Directives.{Head, TailAt, IsAllowed}
 use Rattle.c_signature.specs.Signature as plain
 use Rattle.c_signature.proofs.DirectiveLemmas.{head_one, tail_needs, tail_allows}
 use Rattle.c_macros.specs.declared.Kind.{Kind}
-use Rattle.c_macros.specs.declared.Split.{Split}
 use Rattle.c_macros.specs.declared.conversions.Argument as code_argument
 use Rattle.c_macros.specs.declared.directives.Head as code_head
 use Rattle.c_macros.specs.declared.directives.Directive as code_directive
 use Rattle.c_macros.specs.declared.requests.Request.{Request}
 use Rattle.c_macros.specs.Macros.{MacroAt}
 use Rattle.c_macros.specs.MacroDirectives.{Directive, Spelled, Named, DirectiveAt, plain_request, amounts}
-use Rattle.c_macros.specs.MacroSplits.{flag_splits, macro_split}
 use Rattle.c_macros.specs.MacroScanning.{amount_view, argument_view, head_view, ReadsHead, HasNoTail, ReadsTail}
-use Rattle.c_macros.specs.MacroScanning.{ReadsDirective, Fits, own_of, own_requests, spelled}
-use Rattle.c_macros.proofs.MacroLemmas.{macro_shorter}
+use Rattle.c_macros.specs.MacroScanning.{ReadsDirective, own_of, own_requests, spelled}
 use Rattle.c_macros.proofs.MacroDirectiveLemmas.{places}
 
 -- ---- heads

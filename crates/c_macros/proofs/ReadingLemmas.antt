@@ -1,9 +1,8 @@
 -- Texts as they are read, directive by directive.
-use Rattle.std.proofs.Common.{◌≡◌, ℕ, ◌<◌, ◌≤◌, List, [], ◌∷◌, ◌++◌, length, Option, None, Some, refl, sym, ap}
+use Rattle.std.proofs.Common.{◌≡◌, ℕ, ◌<◌, ◌≤◌, List, [], ◌∷◌, ◌++◌, length, Option, None, Some, sym, ap}
 use Rattle.std.proofs.Common.{subst, ◌∙◌, arith}
-use Rattle.std.specs.List.{flat_map}
 use Rattle.std.proofs.lemmas.List.{length-append}
-use Rattle.format_arguments.specs.Text.{SkipsPlain, IsFormat}
+use Rattle.format_arguments.specs.Text.{SkipsPlain}
 use Rattle.format_arguments.proofs.TextLemmas.{HasRead, read_nothing, reads_on, no_format, read_all, asked_by_all}
 use Rattle.format_arguments.proofs.TextLemmas.{step_shorter}
 use Rattle.c_signature.specs.Pieces.{percent}
@@ -17,8 +16,8 @@ use Rattle.c_macros.specs.declared.requests.Request.{Request}
 use Rattle.c_macros.specs.MacroDirectives.{Directive, DirectiveAt, requests}
 use Rattle.c_macros.specs.MacroFormat.{AsksFor, HasNoList, Lists, HasFault, IsInvalid}
 use Rattle.c_macros.specs.MacroSplits.{Parted, PartedAt, HasParts}
-use Rattle.c_macros.specs.MacroScanning.{ReadsDirective, asked_by, parts_of, Fits, NamedFits, IsInvalidOnly, HasNoParts}
-use Rattle.c_macros.proofs.MacroDirectiveLemmas.{are_directives, are_parted, with_parts, without_parts}
+use Rattle.c_macros.specs.MacroScanning.{ReadsDirective, asked_by, parts_of, Fits, NamedFits, IsInvalidOnly}
+use Rattle.c_macros.proofs.MacroDirectiveLemmas.{are_directives, are_parted, without_parts}
 
 abbrev pub HasAsked : List ℕ → List ℕ → List Request → Type 0
 HasAsked text rest asked = HasRead percent DirectiveAt are_directives requests text rest asked

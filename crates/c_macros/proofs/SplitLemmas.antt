@@ -1,22 +1,21 @@
 -- The parts of a text, in order and within it.
-use Rattle.std.proofs.Common.{◌≡◌, ℕ, zero, suc, ◌+◌, ◌-◌, ◌<◌, ◌≤◌, Bool, true, false, List, [], ◌∷◌, ◌++◌, length}
+use Rattle.std.proofs.Common.{◌≡◌, ℕ, ◌+◌, ◌-◌, ◌<◌, ◌≤◌, List, [], ◌∷◌, ◌++◌, length}
 use Rattle.std.proofs.Common.{take, get_or, refl, sym, ap, subst, ◌∙◌, arith, inl, inr}
 use Rattle.std.specs.Prelude.{◌==◌}
 use Rattle.std.specs.List.{flat_map}
 use Rattle.std.proofs.lemmas.Bool.{cases_Bool}
 use Rattle.std.proofs.lemmas.List.{append-nil, append_assoc, length-append, length-take-le, take_more}
-use Rattle.format_arguments.specs.Text.{IsFormat, SkipsPlain}
+use Rattle.format_arguments.specs.Text.{IsFormat}
 use Rattle.format_arguments.proofs.TextLemmas.{one_asked}
 use Rattle.c_signature.specs.Pieces.{percent}
 use Rattle.c_signature.specs.Directives as c
 use Rattle.c_signature.specs.Directives.{Head, HeadAt}
-use Rattle.c_signature.proofs.FormatLemmas.{directive_shorter}
 use Rattle.c_macros.specs.declared.Kind.{Kind}
 use Rattle.c_macros.specs.declared.MacroFault.{MacroFault}
 use Rattle.c_macros.specs.declared.MacroFault.TheVariants.{Invalid}
 use Rattle.c_macros.specs.declared.Split.{Split}
 use Rattle.c_macros.specs.declared.Side.{Side}
-use Rattle.c_macros.specs.MacroDirectives.{Directive, Spelled, Named, NamedAt}
+use Rattle.c_macros.specs.MacroDirectives.{Directive, Spelled, Named}
 use Rattle.c_macros.specs.MacroFormat.{Lists, IsInvalid}
 use Rattle.c_macros.specs.MacroScanning.{HasNoParts}
 use Rattle.c_macros.specs.MacroSplits.{other_digits, split, flag_splits, head_splits, macro_split, Parted, HasPartsAt}

@@ -1,5 +1,5 @@
 -- Directives with and without macros, and what each asks for.
-use Rattle.std.specs.Prelude.{◌≡◌, ℕ, List, [], ◌∷◌, ◌++◌, map, Option, None, Some}
+use Rattle.std.specs.Prelude.{ℕ, List, [], ◌∷◌, ◌++◌, map, Option}
 use Rattle.c_signature.specs.Pieces.{Amount}
 use Rattle.c_signature.specs.Directives as c
 use Rattle.c_signature.specs.Directives.{Head, HeadAt, own_argument}

@@ -1,5 +1,5 @@
 -- The argument list of a C format with macros (C standard, 7.21.6.1 and 7.8.1; POSIX, fprintf).
-use Rattle.std.specs.Prelude.{◌≡◌, ℕ, ◌+◌, ◌<◌, List, length, map, Option, None, Some, ◌⊎◌, Contains, slice_get}
+use Rattle.std.specs.Prelude.{◌≡◌, ℕ, ◌+◌, ◌<◌, List, length, map, None, Some, ◌⊎◌, Contains, slice_get}
 use Rattle.std.specs.List.{flat_map}
 use Rattle.format_arguments.specs.Text.{IsFormat}
 use Rattle.c_signature.specs.Pieces.{percent}
