@@ -12,7 +12,7 @@ use Rattle.mo_dependent.specs.Splits.{texts, text_of, text_pool, end_of}
 use Rattle.mo_dependent.specs.Segments.{segments, segment_rows}
 use Rattle.mo_dependent.specs.Layout.{rows_from, descriptor_len, pointers, descriptors, strings, sizes_of}
 use Rattle.mo_dependent.specs.Layout.{file_with, strings_at, names_at, texts_at, descriptors_at}
-use Rattle.mo_dependent.specs.declared.split.Split.{Split}
+use Rattle.c_macros.specs.declared.Split.{Split}
 use Rattle.mo_dependent.specs.declared.split.SplitText.{SplitText}
 use Rattle.mo_dependent.specs.declared.split.Dependent.{Dependent}
 use Rattle.mo_dependent.proofs.Steps.{length-texts}

@@ -17,7 +17,7 @@ use Rattle.mo_dependent.specs.Splits.{texts, text_of, text_pool}
 use Rattle.mo_dependent.specs.Segments.{index_of, add_name, numbered, names_of, uses, segment_rows}
 use Rattle.mo_dependent.specs.Hashing.{hash_from, hash_step}
 use Rattle.mo_dependent.specs.Layout.{descriptor_len, pointers, descriptors, rows, rows_from}
-use Rattle.mo_dependent.specs.declared.split.Split.{Split}
+use Rattle.c_macros.specs.declared.Split.{Split}
 use Rattle.mo_dependent.specs.declared.split.SplitText.{SplitText}
 use Rattle.mo_dependent.specs.declared.split.Dependent.{Dependent}
 

@@ -11,7 +11,7 @@ use Rattle.mo_image.specs.MoFile.{magic_number, most_file, word, pairs, pool}
 use Rattle.mo_dependent.specs.Splits.{end_of, name_at, texts, text_of, text_pool}
 use Rattle.mo_dependent.specs.Segments.{index_of, segments, segment_rows}
 use Rattle.mo_dependent.specs.Hashing.{IsHashSize, IsHashTable}
-use Rattle.mo_dependent.specs.declared.split.Split.{Split}
+use Rattle.c_macros.specs.declared.Split.{Split}
 use Rattle.mo_dependent.specs.declared.split.SplitText.{SplitText}
 use Rattle.mo_dependent.specs.declared.split.Dependent.{Dependent}
 use Rattle.mo_dependent.specs.declared.header.Sizes.{Sizes}

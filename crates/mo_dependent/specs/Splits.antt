@@ -2,7 +2,7 @@
 use Rattle.std.specs.Prelude.{ℕ, ◌+◌, ◌-◌, ◌<◌, ◌≤◌, ◌==◌, if◌then◌else◌, List, [], ◌∷◌, ◌++◌, length, map, take, drop}
 use Rattle.std.specs.List.{flat_map}
 use Rattle.mo_image.specs.MoFile.{with_nul}
-use Rattle.mo_dependent.specs.declared.split.Split.{Split}
+use Rattle.c_macros.specs.declared.Split.{Split}
 use Rattle.mo_dependent.specs.declared.split.SplitText.{SplitText}
 use Rattle.mo_dependent.specs.declared.split.Dependent.{Dependent}
 

@@ -13,6 +13,7 @@ mod statics;
 mod words;
 mod writer;
 
+pub use c_macros::Split;
 pub use fault::WriteFault;
-pub use split::{Dependent, Split, SplitText, are_split};
+pub use split::{Dependent, SplitText, are_split};
 pub use writer::write_dependent;

@@ -3,14 +3,7 @@ ghost use Rattle.std.specs.Prelude.{◌≡◌, ◌↔◌, ◌*◌, ◌<◌, ◌+
 ghost use Rattle.std.specs.List.{AllByRecursion};
 ghost use Rattle.mo_dependent.specs.Splits.{name_at, texts, HasSplits, IsSplit};
 
-/// A place of a text where a segment of the file takes its place.
-#[derive(Clone, Copy, Debug, PartialEq, Eq)]
-pub struct Split {
-    /// Where it begins.
-    pub start: usize,
-    /// Its length: 1 for the flag `I`; otherwise it is a macro with its `<` and `>`, as in `<PRIu64>`.
-    pub len: usize,
-}
+use c_macros::Split;
 
 /// A string of a message, with its splits in rising order.
 #[derive(Drop)]
