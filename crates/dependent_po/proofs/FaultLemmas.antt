@@ -1,7 +1,7 @@
 -- The first fault of entries whose formats may name macros.
 use Rattle.std.proofs.Common.{◌≡◌, ℕ, ◌<◌, ◌≤◌, Bool, true, false, List, Option, Some, None, refl, sym, ap, ◌∙◌, subst}
 use Rattle.std.proofs.Common.{arith, inl, inr}
-use Rattle.std.specs.Prelude.{◌⊎◌, IsTrue, if◌then◌else◌, option_map}
+use Rattle.std.specs.Prelude.{◌⊎◌, IsTrue, if◌then◌else◌}
 use Rattle.std.specs.Option.{option_map_or}
 use Rattle.std.proofs.lemmas.Bool.{false≢true}
 use Rattle.po_text.specs.Entries as po
@@ -9,11 +9,11 @@ use Rattle.po_text.specs.Outcome as outcome
 use Rattle.po_text.specs.declared.PoKind.TheVariants as kinds
 use Rattle.po_text.proofs.Outcomes.{gives_one}
 use Rattle.po_header.specs.Rule.{Rule}
-use Rattle.po_checks.specs.Checks.{FirstAt, NoneOf}
+use Rattle.po_checks.specs.Checks.{FirstAt}
 use Rattle.po_checks.specs.Fails.{IsDuplicateAt, IsForeignAt, IsFirst, rank}
 use Rattle.po_checks.specs.Fails as plain
 use Rattle.po_checks.specs.Found.{FirstLine, FirstFault, FailsFrom, IsFault}
-use Rattle.po_checks.specs.Kept.{kept, kept_header, header_line_of, HasHeaderRule}
+use Rattle.po_checks.specs.Kept.{kept, kept_header, header_line_of}
 use Rattle.po_checks.specs.Refusal.{out_of_memory}
 use Rattle.po_checks.specs.declared.options.Options.{Options}
 use Rattle.po_checks.specs.declared.findings.Findings.{Findings}

@@ -1,10 +1,10 @@
 -- What is gathered, one entry after another.
 use Rattle.std.proofs.Common.{◌≡◌, ℕ, Bool, true, false, List, [], ◌∷◌, ◌++◌, map, refl, sym, ap, ◌∙◌, subst, Option}
-use Rattle.std.proofs.Common.{None, Some, inl, inr}
-use Rattle.std.specs.Prelude.{cond, ◌&&◌, ◌↔◌, IsTrue, slice_get, string_bytes}
+use Rattle.std.proofs.Common.{None, Some}
+use Rattle.std.specs.Prelude.{cond}
 use Rattle.std.specs.Option.{option_or}
 use Rattle.std.specs.List.{find}
-use Rattle.std.proofs.lemmas.List.{append-nil, map-append}
+use Rattle.std.proofs.lemmas.List.{map-append}
 use Rattle.std.proofs.lemmas.List.Elements.{filter-append}
 use Rattle.std.proofs.lemmas.List.Folds.{find-append}
 use Rattle.po_text.specs.Entries as po
@@ -20,7 +20,7 @@ use Rattle.po_checks.proofs.Checking.{kept_skip, kept_more}
 use Rattle.dependent_po.specs.Counts.{standing_of}
 use Rattle.dependent_po.specs.Formats.{HasOtherArguments}
 use Rattle.dependent_po.specs.EntryGathering.{AddsHeader, AddsKept, AreGathered, Gathers, HasGathered}
-use Rattle.dependent_po.specs.Headers.{header_texts, IsHeaderOf, own_header, stored_texts}
+use Rattle.dependent_po.specs.Headers.{IsHeaderOf, own_header}
 use Rattle.dependent_po.specs.declared.counts.Standing.{Standing}
 use Rattle.dependent_po.specs.declared.gathered.Gathered.{Gathered}
 use Rattle.dependent_po.specs.declared.header.Header.{Header}

@@ -1,5 +1,5 @@
 -- The checks look at an entry as though it had no format: what they find then, and what refuses the entries besides.
-use Rattle.std.proofs.Common.{◌≡◌, ℕ, ◌<◌, ◌≤◌, Bool, true, false, cond, List, [], ◌∷◌, ◌++◌, map, Option, Some, None}
+use Rattle.std.proofs.Common.{◌≡◌, ℕ, Bool, true, false, cond, List, [], ◌∷◌, ◌++◌, map, Option, Some, None}
 use Rattle.std.proofs.Common.{refl, sym, ap, ◌∙◌, subst, arith, inl, inr}
 use Rattle.std.specs.Prelude.{◌⊎◌, IsTrue, option_map}
 use Rattle.std.specs.List.{Any, find}
@@ -11,21 +11,17 @@ use Rattle.po_header.specs.Rule.{Rule, Given, Absent, Broken, HasRuleIn}
 use Rattle.mo_image.specs.Map.{first_form}
 use Rattle.po_checks.specs.Checks.{NoneOf, FirstAt, IsPlural, HasSystemDependentText, HasOtherCount, HasOtherNewlines}
 use Rattle.po_checks.specs.Checks as checks
-use Rattle.po_checks.specs.Found.{FirstLine, FirstFault, FailsFrom, HasFound, HasPlurals, AreFound}
+use Rattle.po_checks.specs.Found.{FirstLine, FailsFrom, HasFound}
 use Rattle.po_checks.specs.Kept.{is_header, is_kept, kept, kept_header, header_line_of, header_text_of, HasHeaderRule}
 use Rattle.po_checks.specs.Fails.{RuleRefuses, HeaderRefuses, rank}
-use Rattle.po_checks.specs.Fails as plain
 use Rattle.po_checks.specs.declared.findings.Findings.{Findings}
-use Rattle.po_checks.specs.declared.plurals.Plurals.{Plurals}
 use Rattle.po_checks.specs.declared.options.Options.{Options}
 use Rattle.po_checks.specs.declared.fault.LoadKind.{LoadKind}
 use Rattle.po_checks.specs.declared.fault.LoadKind.TheVariants.{Duplicate, Charset, SystemDependent, NoRule, BadRule}
 use Rattle.po_checks.specs.declared.fault.LoadKind.TheVariants.{FormCount, PluralRange, FormatMismatch, NewlineMismatch}
-use Rattle.po_checks.specs.declared.fault.LoadKind.TheVariants.{Memory}
 use Rattle.po_checks.proofs.FirstLines.{any_none, any_head, any_tail, any_cases}
 use Rattle.dependent_po.specs.Formats.{HasOtherArguments}
 use Rattle.dependent_po.specs.EntryGathering.{FailsLate}
-use Rattle.dependent_po.specs.MacroMeaning.{Fails}
 
 -- the entry, as though it weren't flagged `c-format`
 abbrev pub bare : po.Entry → po.Entry

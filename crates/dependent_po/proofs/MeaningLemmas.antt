@@ -1,5 +1,5 @@
 -- What was gathered of a text is what the text compiles to.
-use Rattle.std.proofs.Common.{◌≡◌, ℕ, ◌<◌, ◌^◌, Bool, List, length, Option, Some, None, refl, sym, ap, ◌∙◌, subst, inl}
+use Rattle.std.proofs.Common.{◌≡◌, ℕ, ◌<◌, ◌^◌, List, length, Option, Some, None, refl, sym, ap, ◌∙◌, subst}
 use Rattle.std.proofs.Common.{inr, arith}
 use Rattle.std.specs.Prelude.{Result, Ok, Err, IfErr, ◌⊎◌, if◌then◌else◌, option_map, string_bytes}
 use Rattle.std.specs.Option.{option_map_or}
@@ -8,8 +8,7 @@ use denote.Ref.{Bor}
 use Rattle.po_text.specs.Entries as po
 use Rattle.po_text.proofs.Sizes.{gives_count}
 use Rattle.po_header.specs.Rule.{Rule, HasRuleIn}
-use Rattle.po_checks.specs.Found.{FirstFault}
-use Rattle.po_checks.specs.Kept.{kept, kept_header, header_text_of, HasHeaderRule}
+use Rattle.po_checks.specs.Kept.{kept_header, header_text_of, HasHeaderRule}
 use Rattle.po_checks.specs.Refusal.{out_of_memory}
 use Rattle.po_checks.specs.declared.options.Options.{Options}
 use Rattle.po_checks.specs.declared.fault.LoadFault.{LoadFault}
@@ -18,7 +17,7 @@ use Rattle.mo_segments.specs.MessageStrings.{Strings, strings_of}
 use Rattle.mo_segments.specs.Flat.{AreKept}
 use Rattle.catalogue.specs.Meaning.{lacking, none_missing}
 use Rattle.dependent_po.specs.Counts.{standing_of, stats_by}
-use Rattle.dependent_po.specs.EntryGathering.{AreGathered, FailsLate, HasGathered, IsGatheredOf, IsLateFault}
+use Rattle.dependent_po.specs.EntryGathering.{HasGathered, IsGatheredOf, IsLateFault}
 use Rattle.dependent_po.specs.Headers.{header_texts, stored_texts, IsHeaderOf}
 use Rattle.dependent_po.specs.MacroMeaning.{Means, Refuses}
 use Rattle.dependent_po.specs.SplitViews.{messages_in}

@@ -1,18 +1,16 @@
 -- Messages in two parts, one after another.
-use Rattle.std.proofs.Common.{◌≡◌, ℕ, Bool, true, false, List, [], ◌∷◌, ◌++◌, map, refl, sym, ap, ◌∙◌, subst}
-use Rattle.std.specs.Prelude.{cond, not, ◌&&◌}
+use Rattle.std.proofs.Common.{◌≡◌, Bool, true, false, List, [], ◌∷◌, ◌++◌, map, sym, ap, ◌∙◌}
+use Rattle.std.specs.Prelude.{cond, not}
 use Rattle.std.specs.List.{filter}
 use Rattle.std.proofs.lemmas.List.{append-nil, map-append}
 use Rattle.std.proofs.lemmas.List.Elements.{filter-append}
 use Rattle.po_text.specs.Entries as po
-use Rattle.po_checks.specs.Kept.{message_of}
-use Rattle.mo_image.specs.Entry.{original, translation}
 use Rattle.mo_segments.specs.MessageStrings.{Strings, strings_in, strings_of}
 use Rattle.mo_segments.specs.declared.messages.Strings.{Strings as Held}
+use Rattle.mo_dependent.specs.declared.split.Dependent.{Dependent}
 use Rattle.dependent_po.specs.EntryGathering.{AreGathered, AddsMessage}
-use Rattle.dependent_po.specs.SplitMessages.{Message, AreMessages, IsMessageOf, has_split, is_static, static_strings}
+use Rattle.dependent_po.specs.SplitMessages.{Message, AreMessages, IsMessageOf, has_split, is_static}
 use Rattle.dependent_po.specs.SplitViews.{message_in, messages_in}
-use Rattle.dependent_po.specs.declared.dependent.Dependent.{Dependent}
 use Rattle.dependent_po.specs.declared.messages.Messages.{Messages}
 
 filter_more : {X : Type 0} (p : X → Bool) (xs : List X) (x : X) → p x ≡ true → filter p (xs ++ x ∷ [])
@@ -54,15 +52,17 @@ dependent_added e d old new is has pushed same es g =
     }
 
 -- a message without one
-pub static_added : (e : po.Entry) (d : Dependent) (old new : Messages) → IsMessageOf e (message_in d)
-    → has_split (message_in d) ≡ false → new.statics.items ≡ old.statics.items ++ d.strings ∷ [] → new.dependents.items
-    ≡ old.dependents.items → AddsMessage e old new
-static_added e d old new is lacks pushed same es g =
+pub static_added : (e : po.Entry) (d : Dependent) (held : Held) (old new : Messages) → IsMessageOf e (message_in d)
+    → has_split (message_in d) ≡ false → strings_in held ≡ (message_in d).strings
+    → new.statics.items ≡ old.statics.items ++ held ∷ [] → new.dependents.items ≡ old.dependents.items
+    → AddsMessage e old new
+static_added e d held old new is lacks own pushed same es g =
     let m : Message = message_in d in
     record {
       messages = g.messages ++ m ∷ [];
       are = messages_push es g.messages e m g.are is;
-      statics_are = ap strings_of pushed ∙ map-append strings_in old.statics.items (d.strings ∷ [])
+      statics_are = ap strings_of pushed ∙ map-append strings_in old.statics.items (held ∷ [])
+          ∙ ap (λ (s : Strings). strings_of old.statics.items ++ s ∷ []) own
           ∙ ap (λ (ss : List Strings). ss ++ m.strings ∷ []) g.statics_are
           ∙ sym (ap (map (λ (n : Message). n.strings)) (filter_more is_static g.messages m (ap not lacks))
           ∙ map-append (λ (n : Message). n.strings) (filter is_static g.messages) (m ∷ []));

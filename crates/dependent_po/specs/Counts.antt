@@ -1,5 +1,5 @@
 -- Private: how entries count in the statistics.
-use Rattle.std.specs.Prelude.{ℕ, Bool, true, false, if◌then◌else◌, List}
+use Rattle.std.specs.Prelude.{Bool, true, false, if◌then◌else◌, List}
 use Rattle.std.specs.List.{count_by}
 use Rattle.po_text.specs.Entries as po
 use Rattle.po_checks.specs.Kept.{is_header, is_untranslated}

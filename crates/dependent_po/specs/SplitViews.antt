@@ -1,14 +1,13 @@
 -- The messages that the code holds.
 use Rattle.std.specs.Prelude.{List, map}
-use Rattle.mo_segments.specs.MessageStrings.{strings_in}
+use Rattle.mo_dependent.specs.declared.split.Dependent.{Dependent}
 use Rattle.dependent_po.specs.SplitMessages.{Message}
-use Rattle.dependent_po.specs.declared.dependent.Dependent.{Dependent}
 
 abbrev pub message_in : Dependent → Message
 message_in d = record {
-  strings = strings_in d.strings;
-  original_splits = d.original_splits.items;
-  translation_splits = d.translation_splits.items;
+  strings = (d.original.bytes.items, d.translation.bytes.items);
+  original_splits = d.original.splits.items;
+  translation_splits = d.translation.splits.items;
 }
 
 abbrev pub messages_in : List Dependent → List Message

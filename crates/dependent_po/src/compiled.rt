@@ -1,7 +1,7 @@
 //! What a PO text compiles to where its formats may name macros.
 
-use crate::dependent::Dependent;
 use catalogue::Stats;
+use mo_dependent::Dependent;
 use mo_segments::Strings;
 
 /// What a PO text compiles to.

@@ -2,6 +2,7 @@
 ghost use Rattle.std.specs.Prelude.{◌≡◌, ℕ, ◌++◌, ◌+◌, ◌<◌, ◌≤◌, ◌^◌, IfOk, OnOk, map, string_bytes};
 ghost use Rattle.c_macros.specs.MacroSplits.{AreWithin};
 ghost use Rattle.mo_image.specs.Entry.{original};
+ghost use Rattle.mo_segments.specs.MessageStrings.{strings_in};
 ghost use Rattle.po_checks.specs.Kept.{message_of};
 ghost use Rattle.dependent_po.specs.SplitMessages as Messages;
 ghost use Rattle.dependent_po.specs.SplitMessages.{front_len, moved, AreOriginalSplits, AreSplitsIf};
@@ -10,25 +11,30 @@ ghost use Rattle.dependent_po.specs.SplitViews.{message_in};
 ghost use Rattle.dependent_po.specs.FormAdding.{AddsForm, HasTranslation};
 
 use c_macros::{Side, Split, splits};
+use mo_dependent::{Dependent, SplitText};
 use mo_image::{push_form, push_key};
 use mo_segments::Strings;
 use po_text::EntryBuffer;
 use std::alloc::{AllocError, Global};
 
-/// A message with its splits: the macros and flags at which its strings are cut into pieces.
-#[derive(Drop)]
-pub struct Dependent {
-    pub strings: Strings,
-    pub original_splits: Vec<Split>,
-    pub translation_splits: Vec<Split>,
+/// Whether a message has a split.
+pub(crate) fn has_split(message: &Dependent) -> bool
+    ensures { result ≡ Messages.has_split (message_in message.now) }
+{
+    !message.original.splits.is_empty() || !message.translation.splits.is_empty()
 }
 
-impl Dependent {
-    /// Whether the message has a split.
-    pub fn has_split(&self) -> bool
-        ensures { result ≡ Messages.has_split (message_in self.now) }
-    {
-        !self.original_splits.is_empty() || !self.translation_splits.is_empty()
+/// The two strings of a message, without its splits.
+pub(crate) fn into_strings(message: Dependent) -> Strings
+    ensures { strings_in result ≡ (message_in message).strings }
+{
+    let Dependent {
+        original,
+        translation,
+    } = message;
+    Strings {
+        original: original.bytes,
+        translation: translation.bytes,
     }
 }
 
@@ -149,11 +155,13 @@ pub(crate) fn message_of(alloc: Global, entry: &EntryBuffer) -> Result<Dependent
     let original_splits = original_splits_if(alloc, entry, looks)?;
     let Translation { text, splits } = translation_of(alloc, entry, looks)?;
     Ok(Dependent {
-        strings: Strings {
-            original: original.into_bytes(),
-            translation: text.into_bytes(),
+        original: SplitText {
+            bytes: original.into_bytes(),
+            splits: original_splits,
         },
-        original_splits,
-        translation_splits: splits,
+        translation: SplitText {
+            bytes: text.into_bytes(),
+            splits,
+        },
     })
 }

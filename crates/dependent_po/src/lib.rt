@@ -16,5 +16,5 @@ mod messages;
 pub use c_macros::Split;
 pub use compiled::DependentCompiled;
 pub use compiler::compile_dependent;
-pub use dependent::Dependent;
+pub use mo_dependent::{Dependent, SplitText};
 pub use mo_segments::Strings;

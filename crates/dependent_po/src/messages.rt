@@ -2,7 +2,8 @@
 ghost use Rattle.std.specs.Prelude.{◌≡◌, [], OnOk};
 ghost use Rattle.dependent_po.specs.EntryGathering.{AddsMessage, AreGathered};
 
-use crate::dependent::{Dependent, message_of};
+use crate::dependent::{has_split, into_strings, message_of};
+use mo_dependent::Dependent;
 use mo_segments::Strings;
 use po_text::EntryBuffer;
 use std::alloc::{AllocError, Global};
@@ -30,10 +31,10 @@ impl Messages {
         ensures { OnOk result (AddsMessage entry.now self.old self.new) }
     {
         let message = message_of(alloc, entry)?;
-        if message.has_split() {
+        if has_split(&message) {
             self.dependents.push(message)?;
         } else {
-            self.statics.push(message.strings)?;
+            self.statics.push(into_strings(message))?;
         }
         Ok(())
     }

@@ -1,6 +1,6 @@
 //! PO texts whose formats name macros, beside the MO files that GNU msgfmt 0.21 writes of them.
 use catalogue::{LoadKind, Options};
-use dependent_po::{Dependent, DependentCompiled, Split, compile_dependent};
+use dependent_po::{Dependent, DependentCompiled, Split, SplitText, compile_dependent};
 use std::alloc::Global;
 
 const CHECKED: Options = Options {
@@ -33,16 +33,16 @@ fn are_split(splits: &[Split], wanted: &[(usize, usize)]) -> bool {
     true
 }
 
-fn is_message(
-    message: Option<&Dependent>,
-    original: (&[u8], &[(usize, usize)]),
-    translation: (&[u8], &[(usize, usize)]),
-) -> bool {
+/// A string by its bytes, and its splits by start and length.
+type Row<'a> = (&'a [u8], &'a [(usize, usize)]);
+
+fn is_text(text: &SplitText, wanted: Row<'_>) -> bool {
+    text.bytes.as_slice() == wanted.0 && are_split(text.splits.as_slice(), wanted.1)
+}
+
+fn is_message(message: Option<&Dependent>, original: Row<'_>, translation: Row<'_>) -> bool {
     let Some(message) = message else { return false };
-    message.strings.original.as_slice() == original.0
-        && message.strings.translation.as_slice() == translation.0
-        && are_split(message.original_splits.as_slice(), original.1)
-        && are_split(message.translation_splits.as_slice(), translation.1)
+    is_text(&message.original, original) && is_text(&message.translation, translation)
 }
 
 fn is_as_written(compiled: &DependentCompiled) -> bool {

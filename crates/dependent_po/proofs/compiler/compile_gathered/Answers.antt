@@ -1,4 +1,4 @@
-use Rattle.std.proofs.Common.{refl, sym, ◌∙◌}
+use Rattle.std.proofs.Common.{refl}
 use Rattle.po_header.specs.Rules.{rule_of}
 use Rattle.dependent_po.proofs.MeaningLemmas.{compiles, few, refused}
 use Rattle.dependent_po.proofs.compiler.compile_gathered.Goals as goal
