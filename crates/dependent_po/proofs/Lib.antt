@@ -1,5 +1,6 @@
 pub mod FormatLemmas
 pub mod SplitLemmas
+pub mod SplitPlaces
 pub mod PartLemmas
 pub mod GatherLemmas
 pub mod LateLemmas

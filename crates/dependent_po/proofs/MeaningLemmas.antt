@@ -6,6 +6,7 @@ use Rattle.std.specs.Option.{option_map_or}
 use Rattle.std.proofs.lemmas.List.{length-map}
 use denote.Ref.{Bor}
 use Rattle.po_text.specs.Entries as po
+use Rattle.po_text.specs.Outcome.{Gives}
 use Rattle.po_text.proofs.Sizes.{gives_count}
 use Rattle.po_header.specs.Rule.{Rule, HasRuleIn}
 use Rattle.po_checks.specs.Kept.{kept_header, header_text_of, HasHeaderRule}
@@ -17,7 +18,7 @@ use Rattle.mo_segments.specs.MessageStrings.{Strings, strings_of}
 use Rattle.mo_segments.specs.Flat.{AreKept}
 use Rattle.catalogue.specs.Meaning.{lacking, none_missing}
 use Rattle.dependent_po.specs.Counts.{standing_of, stats_by}
-use Rattle.dependent_po.specs.EntryGathering.{HasGathered, IsGatheredOf, IsLateFault}
+use Rattle.dependent_po.specs.EntryGathering.{HasGathered, IsGatheredOf, IsLateFault, IsSoundText}
 use Rattle.dependent_po.specs.Headers.{header_texts, stored_texts, IsHeaderOf}
 use Rattle.dependent_po.specs.MacroMeaning.{Means, Refuses}
 use Rattle.dependent_po.specs.SplitViews.{messages_in}
@@ -63,6 +64,10 @@ few text o g h = omega (
   gives_count text h.entries h.gives,
   h.gives.readable.size,
 )
+
+pub gathered_of : (text : List ℕ) (o : Options) (g : Gathered) → IsSoundText text o
+    → (es : List po.Entry) × Gives text es × HasGathered o es g → IsGatheredOf text o g
+gathered_of text o g sound (es, gives, has) = record { sound = sound; entries = es; gives = gives; has = has }
 
 -- a fault by what was gathered refuses the text
 pub refused : (text : List ℕ) (o : Options) (g : Gathered) (lent : Option (Bor (List ℕ))) (rule : Rule)

@@ -1,9 +1,11 @@
 //! Compiles a PO text whose formats may name macros.
 ghost use Rattle.std.specs.Prelude.{◌≡◌, ◌⊎◌, ℕ, List, IfOk, IfErr, if◌then◌else◌, option_map, string_bytes, None};
+ghost use Rattle.std.specs.List.{AllByRecursion};
 ghost use Rattle.std.specs.Option.{option_map_or};
 ghost use Rattle.po_header.specs.Rules.{rule_of};
 ghost use Rattle.catalogue.specs.Meaning.{lacking, none_missing};
 ghost use Rattle.po_checks.specs.Refusal.{out_of_memory};
+ghost use Rattle.mo_dependent.specs.Splits.{IsSplit};
 ghost use Rattle.dependent_po.specs.EntryGathering.{IsGatheredOf, IsLateFault};
 ghost use Rattle.dependent_po.specs.Late as Late;
 ghost use Rattle.dependent_po.specs.MacroMeaning.{Means, Refuses};
@@ -130,7 +132,8 @@ fn compile_gathered(
 /// A text is compiled and refused as by `catalogue::compile`, but none is refused as system-dependent: formats are
 /// compared with the macros that they name. A kept message that is flagged `c-format` is system-dependent if its msgid
 /// names a macro, or one of its forms names a macro or has the flag `I`. Neither its msgid_plural nor its context is
-/// looked at, and a text that is no valid format isn't split.
+/// looked at, and a text that is no valid format isn't split. The splits are as
+/// [`write_dependent`](mo_dependent::write_dependent) requires.
 ///
 /// If an allocation fails, `Memory` may be reported instead of any other result.
 pub fn compile_dependent(
@@ -139,6 +142,7 @@ pub fn compile_dependent(
     options: Options,
 ) -> Result<DependentCompiled, LoadFault>
     ensures ok { IfOk result (Means text.now options) }
+    ensures split { IfOk result (λ compiled. AllByRecursion IsSplit compiled.dependents.items) }
     ensures err { IfErr result (λ fault. (fault ≡ out_of_memory) ⊎ Refuses text.now options fault.kind fault.line) }
 {
     check_front(alloc, text, options)?;
