@@ -5,6 +5,7 @@
 #include "kobdzila.h"
 #include "or_gnu_formats.h"
 #include "replace.h"
+#include "said.h"
 
 #include <signal.h>
 #include <stdatomic.h>
@@ -99,7 +100,7 @@ bool is_po_name(const char *name);
 /* Return the path of a name in a folder. */
 char *path_of(const char *folder, const char *name);
 
-/* ---- compiling (queue.c, one.c, gnu.c, statistics.c) */
+/* ---- compiling (queue.c, one.c, gnu.c) */
 
 /* Compile the catalogues that need it, several at once, the largest first. */
 void compile_all(struct run *run);
@@ -118,13 +119,6 @@ struct gnu_answer {
 struct gnu_answer ask_gnu(const struct run *run, char *name);
 /* Return why there is no GNU msgfmt that knows flags in `#=` lines, or NULL if there is one. */
 char *why_no_gnu_for_flag_lines(void);
-/* Return the counts of a compiled PO text. */
-kob_counts statistics_of(const kob_catalogue *catalogue);
-
-/* The fields that a header is expected to have, in the order in which msgfmt looks for them. */
-enum { FIELD_COUNT = 8 };
-extern const char *const fields[FIELD_COUNT];
-
 /* ---- what is printed (report.c, table.c, progress.c, json.c, sarif.c) */
 
 enum status status_of(const struct run *run);

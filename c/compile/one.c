@@ -9,9 +9,6 @@
 
 enum { MOST_TEXT = 67108864 }; /* bytes of the largest PO text */
 
-const char *const fields[FIELD_COUNT] = {"Project-Id-Version", "PO-Revision-Date", "Last-Translator", "Language-Team",
-                                         "MIME-Version", "Content-Type", "Content-Transfer-Encoding", "Language"};
-
 /* The text of a PO file. */
 struct text_bytes {
     const char *at;
@@ -43,14 +40,6 @@ static void write_mo(const struct run *run, struct catalogue *it, const char *by
 
 /* ---- what msgfmt warns of */
 
-static bool has_field(const char *header, const char *field) {
-    size_t len = strlen(field);
-    for (const char *line = header; line; line = strchr(line, '\n'), line = line ? line + 1 : NULL)
-        if (!strncmp(line, field, len) && line[len] == ':')
-            return true;
-    return false;
-}
-
 /* Scan the text for what decides who compiles it, as msgfmt-or-gnu does. */
 static struct needs scan(const struct run *run, struct text_bytes text) {
     bool checks = run->options.checks;
@@ -59,15 +48,10 @@ static struct needs scan(const struct run *run, struct text_bytes text) {
     return needs_of(&request, text.at, text.len);
 }
 
-/* Note the fields that the header lacks. A text without a header lacks none. */
+/* Note the fields that the header lacks. */
 static void look_for_fields(const struct run *run, struct catalogue *it, const kob_catalogue *made,
                             struct text_bytes text) {
-    kob_text header = kob_find(made, (kob_text){NULL, 0}, (kob_text){"", 0}, NULL);
-    if (!header.at)
-        return;
-    for (unsigned place = 0; place < FIELD_COUNT; place++)
-        if (!has_field(header.at, fields[place]))
-            it->missing |= 1u << place;
+    it->missing = missing_fields(made);
     if (it->missing)
         it->header_line = (unsigned)scan(run, text).header_line;
 }
@@ -141,7 +125,7 @@ static bool refuse_formats(const struct run *run, struct catalogue *it, struct t
     unsigned options = KOB_CHECKED | (run->options.keeps_fuzzy ? KOB_USE_FUZZY : 0);
     struct part part = {text.at, text.at + text.len};
     kob_refusal why;
-    if (!run->options.checks || !checks_formats() || !names_checked_format(part))
+    if (!run->options.checks || !has_library() || !names_checked_format(part))
         return false;
     if (!find_format_faults(&it->formats, part, options, &why))
         stop_for_memory(); /* (the text has compiled) */

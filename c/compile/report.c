@@ -18,20 +18,11 @@ enum status status_of(const struct run *run) {
     return status;
 }
 
-/* Append `, 2 fuzzy translations` and the like, if the count isn't 0. */
-static char *append(char *to, size_t count, const char *one, const char *many) {
-    return count ? to + sprintf(to, ", %zu %s", count, count == 1 ? one : many) : to;
-}
-
 /* The line of `msgfmt --statistics`, after the PO file's name. */
 static void tell_counts(const struct catalogue *it) {
-    enum { ROOM = 200 };
-    char line[ROOM];
-    kob_counts counts = it->counts;
-    char *to = line + sprintf(line, "%zu translated message%s", counts.translated, counts.translated == 1 ? "" : "s");
-    to = append(to, counts.fuzzy, "fuzzy translation", "fuzzy translations");
-    append(to, counts.untranslated, "untranslated message", "untranslated messages");
-    tell("%s: %s.", it->po, line);
+    char line[COUNTS_SIZE];
+    write_counts(line, it->counts);
+    tell("%s: %s", it->po, line);
 }
 
 static void tell_warnings(const struct catalogue *it) {
