@@ -160,7 +160,8 @@ static void ask_for_file(const kob_catalogue *catalogue, size_t count) {
     kob_refusal why;
     kob_text file = kob_mo_file(catalogue);
     kob_catalogue *again = kob_open_mo(file.at, file.len, &why);
-    REQUIRE(again && kob_count(again) == count && is_same(kob_mo_file(again), file));
+    bool is_dependent = file.len > 4 && file.at[4]; /* (the minor revision: reading such a file expands its strings) */
+    REQUIRE(again && kob_count(again) == count && (is_dependent || is_same(kob_mo_file(again), file)));
     for (size_t place = 0; place < count; place++) {
         kob_entry one, two;
         REQUIRE(kob_entry_at(catalogue, place, &one) && kob_entry_at(again, place, &two) && one.forms == two.forms);
@@ -211,6 +212,7 @@ static void check_refusal(kob_refusal why, bool is_po, const uint8_t *bytes, siz
     bool is_mo_fault = why.fault >= KOB_MO_TOO_LARGE && why.fault <= KOB_MO_NO_CHARACTER;
     bool is_po_fault = (why.fault >= KOB_PO_TOO_LARGE && why.fault <= KOB_PO_NEWLINE_MISMATCH) ||
                        why.fault == KOB_PO_NO_CHARACTER || why.fault == KOB_MO_SWOLLEN;
+    /* (KOB_PO_NOT_READ_BACK is a defect of the library) */
     REQUIRE(is_po ? is_po_fault : is_mo_fault);
     REQUIRE(why.line <= lines && (is_po || !why.line) && *kob_fault_text(why.fault));
 }

@@ -85,6 +85,8 @@ enum kob_fault {
     KOB_PO_FORMAT_MISMATCH = 116,
     KOB_PO_NEWLINE_MISMATCH = 117,
     KOB_PO_NO_CHARACTER = 119, /* the charset that the header names has no character for a byte */
+    KOB_PO_NOT_READ_BACK = 120, /* the MO file with system-dependent strings doesn't read back as the messages: never
+                                 * seen; a defect of this library */
     KOB_UNREADABLE = 201,   /* kob_open_file, kob_set_open: can't read the file; see errno */
     KOB_BAD_NAME = 202,     /* a text domain or locale isn't 1 to 64 letters, digits and _ - . @ + */
     KOB_VERSIONS_SPENT = 204 /* kob_store_load: the store has accepted 2^58 - 1 loads, its limit */
@@ -100,8 +102,8 @@ typedef struct {
 enum kob_options {
     KOB_CHECKED = 1,   /* run the checks of `msgfmt -c` */
     KOB_USE_FUZZY = 2, /* include fuzzy messages */
-    KOB_STRICT = 4,    /* refuse a charset other than UTF-8 and US-ASCII, as `msgfmt` does, and an MO file's revision
-                        * other than 0.0 */
+    KOB_STRICT = 4,    /* refuse a charset other than UTF-8 and US-ASCII, system-dependent strings, as `msgfmt` does,
+                        * and an MO file's revision other than 0.0 */
     KOB_WITHOUT_INDEX = 8 /* build no index, for a program that wants the MO file or the entries: opening takes less
                            * time and memory, and look-ups answer the same but take longer */
 };
@@ -129,6 +131,11 @@ kob_catalogue *kob_open_mo(const void *bytes, size_t len, kob_refusal *why);
  * If the file isn't UTF-8, or its header names another charset, it is decoded from the charset that its header names,
  * one of the single-byte charsets that kob_open(3) lists, and the catalogue's header says `charset=UTF-8`. The header
  * must be at the front of the file. The file may have 67,108,864 bytes before and after it is decoded.
+ *
+ * A message that is flagged `c-format` is system-dependent if its msgid or a translation has a macro of <inttypes.h>,
+ * such as `%<PRIu64>`, or a translation has the flag `I`. Look-ups ask for such a message, and get it, with the values
+ * that kob_open_mo says. kob_mo_file is then the file of revision 0.1, or 1.1 with the flag, that GNU msgfmt writes.
+ *
  * References, failures and the bytes are treated as by kob_open_mo. */
 kob_catalogue *kob_open_po(const void *bytes, size_t len, unsigned options, kob_refusal *why);
 
@@ -209,8 +216,8 @@ typedef struct {
  * from an MO file, which has no statistics, all three are 0. */
 void kob_statistics(const kob_catalogue *catalogue, kob_counts *counts);
 
-/* Return the bytes of the MO file of `catalogue`, whichever format it was opened from. They are borrowed from the
- * catalogue. */
+/* Return the bytes of the MO file of `catalogue`, whichever format it was opened from. It is of revision 0.0, but for a
+ * PO file with system-dependent strings (kob_open_po). The bytes are borrowed from the catalogue. */
 kob_text kob_mo_file(const kob_catalogue *catalogue);
 
 /* A PO file that was written of a catalogue. It is immutable, and needs the catalogue no more. */
@@ -263,12 +270,13 @@ typedef struct {
 /* The faults of the formats in a PO file. It is immutable. */
 typedef struct kob_format_faults kob_format_faults;
 
-/* List the faults of the formats in the PO file in `bytes`, as `msgfmt --check-format` of GNU gettext finds them: of each
- * entry that is flagged `python-format`, `python-brace-format`, `javascript-format`, `sh-format`, `qt-format`,
+/* List the faults of the formats in the PO file in `bytes`, as `msgfmt --check-format` of GNU gettext finds them: of
+ * each entry that is flagged `python-format`, `python-brace-format`, `javascript-format`, `sh-format`, `qt-format`,
  * `qt-plural-format`, `kde-format`, `perl-format`, `perl-brace-format`, `php-format` or `ycp-format` and that is in the
- * catalogue with these options, of which KOB_STRICT doesn't count. Formats of C are checked by kob_open_po with KOB_CHECKED. Return the list, which may
- * be empty, and which the caller frees with kob_format_faults_free. If the file is refused, return NULL and store the
- * reason in *why, as kob_open_po does; of an entry's content nothing else is checked. */
+ * catalogue with these options, of which KOB_STRICT doesn't count. Formats of C are checked by kob_open_po with
+ * KOB_CHECKED. Return the list, which may be empty, and which the caller frees with kob_format_faults_free. If the file
+ * is refused, return NULL and store the reason in *why, as kob_open_po does; of an entry's content nothing else is
+ * checked. */
 kob_format_faults *kob_check_formats(const void *bytes, size_t len, unsigned options, kob_refusal *why);
 
 /* Return how many faults there are. */

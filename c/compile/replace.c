@@ -123,10 +123,18 @@ static int write_through(const char *name, const char *bytes, size_t len) {
     return close(file) < 0 && !cause ? errno : cause;
 }
 
+/* Whether a link leads to a device or a pipe, such as /dev/stdout, which may have no other name. */
+static bool leads_to_stream(const char *name) {
+    struct stat there;
+    return stat(name, &there) == 0 && !S_ISREG(there.st_mode) && !S_ISDIR(there.st_mode);
+}
+
 int write_in_one_step(const char *name, const char *bytes, size_t len, mode_t mode) {
     struct stat old;
     if (lstat(name, &old) < 0)
         return errno == ENOENT ? replace(name, bytes, len, NULL, mode) : errno;
+    if (S_ISLNK(old.st_mode) && leads_to_stream(name))
+        return write_through(name, bytes, len);
     if (S_ISLNK(old.st_mode)) {
         char *target = realpath(name, NULL);
         int cause = target ? write_in_one_step(target, bytes, len, mode) : errno;

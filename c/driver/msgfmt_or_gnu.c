@@ -2,6 +2,7 @@
  * msgfmt otherwise, and for every text that Kobdzila's refuses. See msgfmt-or-gnu(1). */
 #include "or_gnu.h"
 #include "or_gnu_formats.h"
+#include "or_gnu_macros.h"
 #include "replace.h"
 
 #include <errno.h>
@@ -36,6 +37,8 @@ struct run {
     char *input_name; /* the name that the two programs get for it */
     struct text text;
     struct text utf8; /* the text in UTF-8, if it was converted */
+    bool has_macros;  /* libkobdzila compiles it */
+    unsigned long long header_line;
     int recoded;      /* a descriptor for that, or -1 */
     struct streams streams;
     struct timespec start;
@@ -212,13 +215,6 @@ static int read_text(struct run *run, char *why) {
 
 /* --- Kobdzila's msgfmt ------------------------------------------------------------------------------------------ */
 
-/* What Kobdzila's msgfmt printed in a run, and how it ended. */
-struct answer {
-    struct ending ending;
-    char *said;
-    size_t len;
-};
-
 static bool wants_statistics(const struct request *request) {
     return request->wants_statistics || request->verbosity > 0;
 }
@@ -292,6 +288,22 @@ static struct answer run_ours(struct run *run, const char *output, int standard_
     return answer;
 }
 
+/* The text in UTF-8. */
+static struct part utf8_of(const struct run *run) {
+    const struct text *text = run->utf8.bytes ? &run->utf8 : &run->text;
+    return (struct part){text->bytes, text->bytes + text->len};
+}
+
+/* Compile the text by Kobdzila's msgfmt or, if msgfmt refuses such texts, by libkobdzila. */
+static struct answer run_compiler(struct run *run, const char *output, int standard_output) {
+    const struct request *request = run->request;
+    if (!run->has_macros)
+        return run_ours(run, output, standard_output);
+    bool checked = request->checks_format || request->checks_header;
+    struct macro_text text = {utf8_of(run), run->input_name, checked, request->keeps_fuzzy, run->header_line};
+    return compile_macros(&text, output, standard_output);
+}
+
 /* Whether the statistics count messages that -C has to warn about. */
 static bool leaves_messages_out(const struct run *run, const struct answer *answer) {
     return run->request->checks_compatibility && memmem(answer->said, answer->len, ", ", 2);
@@ -331,11 +343,11 @@ static struct answer compile(struct run *run) {
     const char *output = run->request->output;
     bool replaces = is_read_only(output_of(run));
     if (output && !run->request->checks_compatibility && !replaces)
-        return run_ours(run, output, -1);
+        return run_compiler(run, output, -1);
     int memory = unnamed_file();
     if (memory < 0)
         stop("cannot keep an MO file: ", strerror(errno));
-    struct answer answer = run_ours(run, "-", memory);
+    struct answer answer = run_compiler(run, "-", memory);
     bool is_empty = !output && fstat(memory, &made) == 0 && made.st_size <= EMPTY_MO;
     bool writes = !answer.ending.failure && !answer.ending.status && !is_empty && !leaves_messages_out(run, &answer);
     if (writes && replaces)
@@ -344,7 +356,7 @@ static struct answer compile(struct run *run) {
     if (!writes || replaces)
         return answer;
     free(answer.said);
-    return run_ours(run, output_of(run), -1);
+    return run_compiler(run, output_of(run), -1);
 }
 
 /* Return the reason why the text was refused, from `NAME:LINE: REASON`, or NULL if the run failed for another
@@ -398,7 +410,7 @@ static int why_no_room(struct run *run, const char *folder) {
     struct stat made;
     int memory = unnamed_file(), file = raised(open(folder, O_TMPFILE | O_WRONLY, 0600)), cause = 0;
     if (memory >= 0 && file >= 0) {
-        struct answer answer = run_ours(run, "-", memory);
+        struct answer answer = run_compiler(run, "-", memory);
         if (answer.ending.status == 0 && fstat(memory, &made) == 0 && made.st_size > 0)
             cause = posix_fallocate(file, 0, made.st_size);
         free(answer.said);
@@ -537,11 +549,10 @@ _Noreturn static void end_with_faults(struct run *run, const struct format_fault
  * check of the header tells which plural forms serve many numbers. */
 static void check_formats(struct run *run, const char *flag) {
     const struct request *request = run->request;
-    const struct text *utf8 = run->utf8.bytes ? &run->utf8 : &run->text;
     unsigned options = (request->checks_header ? KOB_CHECKED : 0) | (request->keeps_fuzzy ? KOB_USE_FUZZY : 0);
     struct format_faults faults;
     kob_refusal why;
-    if (find_format_faults(&faults, (struct part){utf8->bytes, utf8->bytes + utf8->len}, options, &why)) {
+    if (find_format_faults(&faults, utf8_of(run), options, &why)) {
         if (faults.count)
             end_with_faults(run, &faults, flag);
         free_format_faults(&faults);
@@ -579,10 +590,14 @@ _Noreturn static void drive(struct run *run) {
         snprintf(why, sizeof why, "a name that isn't UTF-8");
     if (why[0] && has_gnu(run))
         end_by_gnu(run, why);
-    if (needs.format && checks_formats())
+    if (needs.format && has_library())
         check_formats(run, needs.format);
-    free(run->text.bytes); /* (msgfmt reads the file for itself) */
-    free(run->utf8.bytes);
+    run->has_macros = needs.has_macros && has_library();
+    run->header_line = needs.header_line;
+    if (!run->has_macros) { /* (msgfmt reads the file for itself) */
+        free(run->text.bytes);
+        free(run->utf8.bytes);
+    }
     compile_text(run, why);
 }
 

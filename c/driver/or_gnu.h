@@ -69,6 +69,7 @@ struct needs {
     bool helps;              /* GNU msgfmt may compile what Kobdzila's refuses of it */
     unsigned long long line; /* the number of the first `#=` line that has a flag, or 0 */
     unsigned long long header_line; /* that of the header's first keyword, or 0 */
+    bool has_macros;         /* an entry may have system-dependent strings, which libkobdzila compiles */
     const char *format;      /* the flag of formats that are to be checked by libkobdzila, or NULL */
 };
 
@@ -85,6 +86,13 @@ struct ending {
     int signal;  /* the signal that killed it, or 0 */
     int failure; /* the errno of why it couldn't be started, or 0 */
     int cause;   /* the errno of its last call that failed, or 0 if that isn't known */
+};
+
+/* What a compiler of PO texts printed in a run, and how it ended. */
+struct answer {
+    struct ending ending;
+    char *said;
+    size_t len;
 };
 
 /* The descriptors for a program's streams; -1 is the driver's own stream. */

@@ -10,7 +10,7 @@
 #pragma weak kob_format_fault_at
 #pragma weak kob_format_faults_free
 
-bool checks_formats(void) { return kob_check_formats != NULL; }
+bool has_library(void) { return kob_check_formats != NULL; }
 
 /* ---- the languages */
 

@@ -64,8 +64,9 @@ struct format_faults {
     size_t count;
 };
 
-/* Whether libkobdzila is a part of this program. Otherwise only GNU msgfmt checks formats but C's. */
-bool checks_formats(void);
+/* Whether libkobdzila is a part of this program. Otherwise only GNU msgfmt checks formats but C's, and compiles
+ * macros. */
+bool has_library(void);
 /* Whether the flag of a format that libkobdzila checks stands in a text, wherever that is. */
 bool names_checked_format(struct part text);
 /* Find what is wrong with the formats of a text in UTF-8. `options` are those of kob_open_po. False and the refusal if

@@ -89,6 +89,16 @@ static void look_at_header(struct scan *scan, const struct entry *entry, struct 
 
 /* ---- other entries */
 
+/* Whether a directive of a form may have the flag I, which makes the string system-dependent. */
+static bool has_flag_i(const struct entry *entry) {
+    const char *end = entry->whole.end;
+    for (const char *at = entry->form.at; at < end && (at = memchr(at, '%', (size_t)(end - at)));)
+        for (at++; at < end && *at && strchr("0123456789$-+ #'I", *at); at++)
+            if (*at == 'I')
+                return true;
+    return false;
+}
+
 /* Take in an entry that is kept. */
 static void look_at_kept(struct scan *scan, const struct entry *entry) {
     const struct flags *flags = &entry->flags;
@@ -98,16 +108,18 @@ static void look_at_kept(struct scan *scan, const struct entry *entry) {
         needs_gnu_for(scan, "newlines differ");
     if (checks && flags->other.at)
         needs_gnu(scan, "", flags->other);
-    if (checks && flags->checked && (flags->has_range || !checks_formats()))
+    if (checks && flags->checked && (flags->has_range || !has_library()))
         needs_gnu_for(scan, flags->checked);
     if (checks && !scan->needs.format)
         scan->needs.format = flags->checked;
-    bool has_macro = scan->has_macros && flags->c_format && find(entry->whole, "<PRI", 0);
-    scan->needs.helps |= has_macro;
-    if (has_macro)
+    bool may_depend = (scan->has_macros && find(entry->whole, "<PRI", 0)) || has_flag_i(entry);
+    bool has_macro = flags->c_format && may_depend;
+    scan->needs.has_macros |= has_macro;
+    scan->needs.helps |= has_macro && !has_library();
+    if (has_macro && !has_library())
         needs_gnu_for(scan, "system-dependent format");
-    else if (checks && (flags->c_format != flags->our_c_format || flags->checked != flags->our_checked ||
-                        flags->is_checked_again))
+    else if (((checks || may_depend) && flags->c_format != flags->our_c_format) ||
+             (checks && (flags->checked != flags->our_checked || flags->is_checked_again)))
         needs_gnu_for(scan, "flags read otherwise by GNU");
 }
 

@@ -211,6 +211,7 @@ const char *kob_fault_text(enum kob_fault fault) {
         return po[fault - KOB_PO_TOO_LARGE];
     switch (fault) {
     case KOB_PO_NO_CHARACTER: return "byte without a character";
+    case KOB_PO_NOT_READ_BACK: return "file not read back";
     case KOB_UNREADABLE: return "file not readable";
     case KOB_BAD_NAME: return "not a name";
     case KOB_VERSIONS_SPENT: return "no more versions";

@@ -287,7 +287,8 @@ impl Catalogue {
         Entries::new(&self.0)
     }
 
-    /// Returns the catalogue as the bytes of an MO file, whichever format it was opened from.
+    /// Returns the catalogue as the bytes of an MO file, whichever format it was opened from. It is of revision 0.0, but
+    /// for a PO text with system-dependent strings such as `%<PRIu64>`.
     ///
     /// ```
     /// # let po = b"msgid \"Winter\"\nmsgstr \"Hiver\"\n";

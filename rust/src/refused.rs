@@ -129,6 +129,8 @@ kinds! {
     PoNewlineMismatch = 117,
     /// A byte has no character in the charset that the header names.
     PoNoCharacter = 119,
+    /// The MO file with system-dependent strings doesn't read back as the messages: never seen; a defect of libkobdzila.
+    PoNotReadBack = 120,
     /// The file couldn't be read: [`Error::source`] says why.
     Unreadable = 201,
     /// A text domain or a locale isn't 1 to 64 letters, digits and `_ - . @ +`.

@@ -13,7 +13,7 @@ NAME=compile
 # catalogues: PO files of many languages: those of the repository, of Django, if it is there, and of installed catalogues
 catalogues() {
   local it count=0
-  mkdir -p bytes
+  mkdir -p bytes macros
   cp "$top"/examples/*.po bytes
   for it in /usr/lib/python3/dist-packages/django/contrib/auth/locale/*/LC_MESSAGES/django.po; do
     [ ! -f "$it" ] || cp "$it" "bytes/django-$(basename "${it%/LC_MESSAGES/django.po}").po"
@@ -22,6 +22,10 @@ catalogues() {
   for it in $(find /usr/share/locale -name '*.mo' -size -200k 2> /dev/null | sort | awk 'NR % 37 == 0'); do
     count=$((count + 1))
     msgunfmt -o "bytes/installed-$count.po" "$it" 2> msgunfmt || rm -f "bytes/installed-$count.po"
+  done
+  # (what msgfmt refuses for its macros is compared with GNU msgfmt's)
+  for it in bytes/*.po; do
+    "$program" -o none.mo "$it" 2> said || { grep -q ': system-dependent format$' said && mv "$it" macros; }
   done
 }
 
@@ -361,7 +365,17 @@ fi
 says 'compile, another charset, --no-gnu' 1 'euc/ja.po:5: not UTF-8' --no-gnu -q euc
 holds 'compile, another charset, --no-gnu: nothing is written' is_absent euc/ja.mo
 says 'compile, flags in #=, --no-gnu' 1 'flags.po:4: flags in a line #= need GNU msgfmt' --no-gnu -q flags.po
+{ header UTF-8 fr && printf '#, c-format\nmsgid "%%<PRIu64> of %%d"\nmsgstr "%%2$Id, %%1$<PRIu64>"\n\nmsgid "a"\nmsgstr "b"\n'; } > macros/fr.po
+says 'compile, macros, --no-gnu' 0 'macros/fr.po: 2 translated messages.' --no-gnu -q -c --statistics macros/fr.po
+{ header UTF-8 fr && printf '#, c-format\nmsgid "%%<PRIu64>"\nmsgstr "%%<PRId64>"\n'; } > wrong.po
+says 'compile, a macro of another type, --no-gnu' 1 'wrong.po:5: format arguments differ' --no-gnu -q -c wrong.po
 if [ -n "$gnu" ]; then
+  run --no-gnu --force -q macros
+  wrong=''
+  for it in macros/*.po; do
+    "$gnu" --no-hash -o wanted.gnu "$it" 2> said && cmp -s wanted.gnu "${it%.po}.mo" || wrong+="$it "
+  done
+  holds "compile, macros: the bytes of GNU msgfmt${wrong:+: not of $wrong}" [ -z "$wrong" ]
   says 'compile, another charset' 0 'euc/ja.po: 1 translated message, 1 fuzzy translation.' --statistics -q euc
   "$gnu" --no-hash -o wanted.gnu euc/ja.po
   holds 'compile, another charset: the bytes of GNU msgfmt' cmp -s euc/ja.mo wanted.gnu

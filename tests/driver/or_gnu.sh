@@ -50,7 +50,7 @@ who_compiles() {
   is_of "${as}a charset" 'GNU\t0\tcharset=EUC-JP\tcharset.po' $none "$gnu" -c --statistics -o x.mo charset.po
   is_of "${as}a charset and its bytes" 'GNU\t0\tcharset=EUC-JP\tjapanese.po' $none "$gnu" -c -o x.mo japanese.po
   is_of "${as}bytes that are not of the charset" 'GNU\t1\tnot UTF-8\tbytes.po' $none "$gnu" -o x.mo bytes.po
-  is_of "${as}system-dependent" 'GNU\t0\tsystem-dependent format\tsystem.po' $none "$gnu" --no-hash -o x.mo system.po
+  is_of "${as}system-dependent" 'ours\t0\t-\tsystem.po' $none "$gnu" --no-hash -o x.mo system.po
   is_of "${as}newlines without -c" 'GNU\t1\tnewlines differ\tnewline.po' $none "$gnu" -o x.mo newline.po
   is_of "${as}-c of another language's formats" 'GNU\t1\tpython-format\tpython.po' $none "$gnu" -c -o x.mo python.po
   is_of "${as}these formats without -c" 'ours\t0\t-\tpython.po' $none "$program" -o x.mo python.po

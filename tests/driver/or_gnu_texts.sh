@@ -70,10 +70,32 @@ answers 'flags behind #~' "$other" "$ab"'#~ #, fuzzy\nmsgid "c"\nmsgstr "d"\n' -
 answers 'flags before an empty #~' "$other" "$ab"'#, fuzzy\n#~\nmsgid "c"\nmsgstr "d"\n' --statistics
 answers 'c-format and then not' "$other" '#, c-format, no-c-format\n'"$formats" -c
 answers 'possible-c-format' 'GNU\t1\tpossible-c-format' '#, possible-c-format\n'"$formats" -c
-macro='msgid "%%<PRId64>"\nmsgstr "%%<PRId64>"\n' system='GNU\t0\tsystem-dependent format'
-answers 'a macro' "$system" '#, c-format\n'"$macro"
-answers 'a macro, possibly' "$system" '#, possible-c-format\n'"$macro"
+
+# --- system-dependent strings -------------------------------------------------------------------------------------------
+
+macro='msgid "%%<PRId64>"\nmsgstr "%%<PRId64>"\n' c='#, c-format\n' different='GNU\t1\tformat arguments differ'
+answers 'a macro' ours "$c$macro"
+answers 'a macro' ours "$c$macro" -c
+answers 'a macro' ours "$ab$c$macro" --statistics
+answers 'a macro, possibly' ours '#, possible-c-format\n'"$macro"
 answers 'a macro, fuzzy' ours "$ab"'#, c-format, fuzzy\n'"$macro"
+answers 'a macro, fuzzy' ours "$ab"'#, c-format, fuzzy\n'"$macro" -f
+answers 'a macro beside other messages' ours "$ab$c$macro$c"'msgid "%%d"\nmsgstr "x %%d"\n' -c
+answers 'a macro with a context' ours "$c"'msgctxt "c"\n'"$macro"
+answers 'a macro in a plural' ours "$c"'msgid "%%<PRIu32> a"\nmsgid_plural "%%<PRIu32> b"\nmsgstr[0] "%%<PRIu32> c"\nmsgstr[1] "d"\n'
+answers 'a macro of the plural alone' ours "$c"'msgid "a"\nmsgid_plural "%%<PRIu32> b"\nmsgstr[0] "c"\nmsgstr[1] "d"\n'
+answers 'several macros' ours "$c"'msgid "%%<PRIdMAX> %%08<PRIxPTR> %%s"\nmsgstr "%%3$s %%2$<PRIxPTR> %%1$<PRIdMAX>"\n' -c
+answers 'a macro of another type' "$different" "$c"'msgid "%%<PRId64>"\nmsgstr "%%<PRIu64>"\n' -c
+answers 'a macro of another type' ours "$c"'msgid "%%<PRId64>"\nmsgstr "%%<PRIu64>"\n'
+answers 'a macro for none' "$different" "$c"'msgid "%%ld"\nmsgstr "%%<PRId64>"\n' -c
+answers 'a macro that is none' "$different" "$c"'msgid "%%<PRId64>"\nmsgstr "%%<PRId65>"\n' -c
+answers 'no macro but its letters' ours "$c"'msgid "<PRId64>"\nmsgstr "a <PRId64>"\n' -c
+answers 'the flag I' ours "$c"'msgid "%%d"\nmsgstr "%%Id"\n' -c
+answers 'the flag I' ours "$c"'msgid "%%d"\nmsgstr "%%Id"\n'
+answers 'the flag I and a macro' ours "$c"'msgid "%%<PRId64> %%d"\nmsgstr "%%I<PRId64> %%-I5d"\n' -c
+answers 'a macro, two lines of flags' "$other" "$c"'#, no-wrap\n'"$macro"
+answers 'a macro in another charset' ours "$c"'msgid "%%<PRId64>"\nmsgstr "\303\251 %%<PRId64>"\n'
+answers 'a macro, a header without fields' ours "$c$macro" -c -v
 answers 'a macro, untranslated' ours "$ab"'#, c-format\nmsgid "%%<PRId64>"\nmsgstr ""\n'
 answers 'a macro, obsolete' ours "$ab"'#, c-format\n#~ msgid "%%<PRId64>"\n#~ msgstr "%%<PRId64>"\n'
 answers 'a macro without the flag' ours "$macro"

@@ -27,6 +27,8 @@ RULES = (
 PLAIN = ('"a"', '"b"', '"c"', '"h\\\\n"', '"%d"', '"%s"', '"a" "b"', '""\n"b"', '"\u00e9"', '"i\\nj"')
 ENDED = ('"d\\n"', '"f\\012"', '"a"\n"d\\n"', '"h\\\\\\n"')
 BEGUN = ('"\\ne"', '"\\012g"')
+MACROS = ('"%<PRId64>"', '"%<PRIu32> %s"', '"%Id"', '"%2$Is %1$I<PRIu8>"', '"x%<PRIxMAX>%-5<PRIoPTR>y"', '"<PRId64>"', '"%<PRId65>"',
+          '"%<PRI" "dLEAST16>"', '"%*<PRIiFAST32>"', '"%jd %<PRIdMAX>"', '"%%<PRId64>"', '"%" "Id"', '"%<P" "RId64>"')  # fmt: skip
 FLAGS = ("fuzzy", "c-format", "no-c-format", "no-wrap", "python-format", "php-format", "foo", "fuzzy, no-wrap",
          "c-format no-wrap", "no-wrap\tfuzzy", "possible-c-format", "range: 0..4")  # fmt: skip
 COMMENTS = ("#", "# x", "#. x", "#: x.c:3", "#| msgid \"q\"", "#| msgctxt \"q\"", "#|", "#~", "#~ # x", "#| # x", "#~| msgid \"q\"",
@@ -37,13 +39,15 @@ Answer = tuple[int, bytes, bytes | None]
 
 def some_flags(rng: random.Random) -> list[str]:
     """None, one or two lines of flags."""
+    if rng.random() < 0.15:
+        return ["#, c-format"]
     count = rng.choice((0, 0, 0, 1, 1, 2))
     return [rng.choice(("#, ", "#,", "#, ", "#! ")) + ", ".join(rng.sample(FLAGS, rng.choice((1, 1, 2)))) for _ in range(count)]
 
 
 def entry(rng: random.Random, key: str) -> list[str]:
     """The lines of an entry, without its comments. Most have the newlines that they should have."""
-    kinds = rng.choice(((PLAIN,), (PLAIN,), (PLAIN,), (ENDED,), (BEGUN,), (PLAIN, ENDED, BEGUN)))
+    kinds = rng.choice(((PLAIN,), (PLAIN,), (PLAIN, MACROS), (MACROS,), (ENDED,), (BEGUN,), (PLAIN, ENDED, BEGUN)))
 
     def text() -> str:
         return rng.choice(rng.choice(kinds))

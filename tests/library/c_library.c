@@ -447,7 +447,6 @@ static void po_refusals(void) {
         { KOB_PO_DUPLICATE, 3, "msgid \"a\"\nmsgstr \"x\"\nmsgid \"a\"\nmsgstr \"y\"\n" },
         { KOB_PO_CHARSET, 1, "msgid \"\"\nmsgstr \"Content-Type: text/plain; charset=EUC-JP\\n\"\n" },
         { KOB_PO_NO_CHARACTER, 4, "msgid \"\"\nmsgstr \"charset=CP1252\\n\"\nmsgid \"a\"\nmsgstr \"\x81\"\n" },
-        { KOB_PO_SYSTEM_DEPENDENT, 2, "#, c-format\nmsgid \"%<PRId64>\"\nmsgstr \"%<PRId64>\"\n" },
         { KOB_PO_NO_RULE, 1, PLURAL },
         { KOB_PO_BAD_RULE, 1, HEADER("nplurals=1; plural=;") PLURAL },
         { KOB_PO_FORM_COUNT, 3, HEADER("nplurals=2; plural=n>1;") PLURAL },
@@ -467,7 +466,7 @@ static void po_refusals(void) {
 static void fault_texts(void) {
     for (int fault = KOB_NO_FAULT; fault <= KOB_BAD_NAME; fault++) {
         int known = fault <= KOB_MO_NO_CHARACTER || (fault >= KOB_PO_TOO_LARGE && fault <= KOB_PO_NEWLINE_MISMATCH) ||
-                    fault == KOB_PO_NO_CHARACTER || fault == KOB_UNREADABLE || fault == KOB_BAD_NAME;
+                    fault == KOB_PO_NO_CHARACTER || fault == KOB_PO_NOT_READ_BACK || fault == KOB_UNREADABLE || fault == KOB_BAD_NAME;
         is("a fault has a text", known == (strcmp(kob_fault_text((enum kob_fault)fault), "unknown fault") != 0));
     }
 }

@@ -102,6 +102,26 @@ static void mo_refusals(void) {
 static const uint32_t system_dependent[] = { 0x950412de, 1, 1, 48, 56, 5, 64, 1, 84, 1, 92, 96, 1, 140, 1, 142, 1, 0, 0,
                                              0, 0, 7, 144, 100, 120, 151, 3, 0, 1, 0xffffffff, 155, 1, 0, 3, 0xffffffff };
 
+/* The text that GNU msgfmt writes this file of. */
+static const char system_text[] = "msgid \"s\"\nmsgstr \"S\"\n"
+                                  "#, c-format\nmsgid \"n %<PRIu64>\"\nmsgstr \"%<PRIu64> N\"\n";
+
+static void compiles_system_strings(const unsigned char *file, size_t len) {
+    kob_counts counts = { 0, 0, 0 };
+    kob_refusal why;
+    kob_catalogue *c = kob_open_po(system_text, strlen(system_text), KOB_CHECKED, &why);
+    is("a text with a macro is compiled", c && kob_count(c) == 2);
+    kob_text made = kob_mo_file(c);
+    is("its file is GNU msgfmt's", made.len == len && !memcmp(made.at, file, len));
+    is("its string has the value of PRIu64", !strcmp(kob_gettext(c, "n %lu"), "%lu N"));
+    is("its other string", !strcmp(kob_gettext(c, "s"), "S"));
+    kob_statistics(c, &counts);
+    is("its statistics", counts.translated == 2 && !counts.fuzzy && !counts.untranslated);
+    kob_release(c);
+    is("KOB_STRICT refuses it", !kob_open_po(system_text, strlen(system_text), KOB_STRICT, &why) &&
+                                    why.fault == KOB_PO_SYSTEM_DEPENDENT && why.line == 4);
+}
+
 static void system_strings(const char *name) {
     const char strings[] = "s\0S\0PRIu64\0n %\0% N";
     unsigned char bytes[sizeof system_dependent + sizeof strings];
@@ -109,6 +129,7 @@ static void system_strings(const char *name) {
         put(bytes + 4 * i, system_dependent[i]);
     memcpy(bytes + sizeof system_dependent, strings, sizeof strings);
     kob_refusal why;
+    compiles_system_strings(bytes, sizeof bytes);
     kob_catalogue *c = kob_open_mo(bytes, sizeof bytes, &why);
     is("a file of revision 0.1 is opened", c && kob_count(c) == 2);
     is("its string has the value of PRIu64", c && !strcmp(kob_gettext(c, "n %lu"), "%lu N"));

@@ -84,6 +84,7 @@ pub const KOB_PO_PLURAL_RANGE: c_uint = 115;
 pub const KOB_PO_FORMAT_MISMATCH: c_uint = 116;
 pub const KOB_PO_NEWLINE_MISMATCH: c_uint = 117;
 pub const KOB_PO_NO_CHARACTER: c_uint = 119;
+pub const KOB_PO_NOT_READ_BACK: c_uint = 120;
 pub const KOB_UNREADABLE: c_uint = 201;
 pub const KOB_BAD_NAME: c_uint = 202;
 pub const KOB_VERSIONS_SPENT: c_uint = 204;
