@@ -1,7 +1,7 @@
-mod Steps
+pub mod Steps
 mod Primes
 mod Probing
-mod Lengths
+pub mod Lengths
 mod StaticStrings
 mod Writing
 mod Filling

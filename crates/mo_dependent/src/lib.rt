@@ -15,5 +15,5 @@ mod writer;
 
 pub use c_macros::Split;
 pub use fault::WriteFault;
-pub use split::{Dependent, SplitText, are_split};
+pub use split::{Dependent, SplitText, are_split, name_at};
 pub use writer::write_dependent;

@@ -21,7 +21,7 @@ pub struct Dependent {
 }
 
 /// The name of the segment at a split: the flag, or what is between `<` and `>`.
-pub(crate) fn name_at(text: &[u8], split: Split) -> &[u8]
+pub fn name_at(text: &[u8], split: Split) -> &[u8]
     requires some { 0 < split.len }
     requires within { split.start + split.len ≤ length text.now }
     ensures { result.now ≡ name_at text.now split }

@@ -19,7 +19,7 @@ pub use dependents::{
 pub use descriptors::{Expanded, expand};
 pub use fault::DependentFault;
 pub use flat::write_flat;
-pub use machine::Value;
+pub use machine::{Value, value_of};
 pub use messages::Strings;
 pub use order::kept;
 pub use segments::read_segments;

@@ -14,7 +14,7 @@ pub struct Value {
 
 impl Value {
     /// Appends the value to a text.
-    pub(crate) fn push_to(self, text: &mut Vec<u8>) -> Result<(), AllocError>
+    pub fn push_to(self, text: &mut Vec<u8>) -> Result<(), AllocError>
         ensures { OnOk result (text.new.items ≡ text.old.items ++ value_text self) }
     {
         if self.long {
@@ -60,7 +60,7 @@ fn is_long(size: &[u8]) -> bool
 
 /// What a segment of this name stands for: a macro `PRIxN`, or the flag `I`, which glibc's printf knows. None if the
 /// name is not known.
-pub(crate) fn value_of(name: &[u8]) -> Option<Value>
+pub fn value_of(name: &[u8]) -> Option<Value>
     ensures { option_map value_text result ≡ value name.now }
 {
     if is(name, b"I") {

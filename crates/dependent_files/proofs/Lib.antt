@@ -1,0 +1,5 @@
+mod Expanding
+mod Gathering
+mod Files
+mod Foreign
+mod Faults

@@ -1,0 +1,30 @@
+-- Private: what each step towards a file can fail for.
+use Rattle.std.specs.Prelude.{◌≡◌, ℕ, List}
+use Rattle.po_checks.specs.Refusal.{out_of_memory}
+use Rattle.any_charset.specs.declared.fault.TextFault.TheVariants.{Load}
+use Rattle.mo_image.specs.Entry.{Entry}
+use Rattle.mo_segments.specs.MessageStrings.{Strings}
+use Rattle.mo_dependent.specs.Layout.{IsWriteFault}
+use Rattle.mo_dependent.specs.declared.split.Dependent.{Dependent}
+use Rattle.mo_dependent.specs.declared.fault.WriteFault.TheVariants as write
+use Rattle.dependent_files.specs.MessagesFile.{LacksCatalogue, ReadsOtherwise}
+use Rattle.dependent_files.specs.declared.fault.FileFault.{FileFault}
+use Rattle.dependent_files.specs.declared.fault.FileFault.TheVariants.{Text, TooLarge, NotItself, Catalogue}
+
+-- the messages have no catalogue, or out of memory
+abbrev pub IsCatalogueFault : List Strings → FileFault → Type 0
+IsCatalogueFault messages (Text fault) = fault ≡ Load out_of_memory
+IsCatalogueFault messages (Catalogue fault) = LacksCatalogue messages fault
+IsCatalogueFault messages _ = ⊥
+
+-- the file would be too large, or out of memory
+abbrev pub IsWritingFault : List Entry → List Dependent → FileFault → Type 0
+IsWritingFault m dependents (Text fault) = fault ≡ Load out_of_memory
+IsWritingFault m dependents TooLarge = IsWriteFault m dependents write.TooLarge
+IsWritingFault m dependents _ = ⊥
+
+-- the file doesn't read as these messages, or out of memory
+abbrev pub IsReadingFault : List ℕ → List Strings → FileFault → Type 0
+IsReadingFault bytes messages (Text fault) = fault ≡ Load out_of_memory
+IsReadingFault bytes messages NotItself = ReadsOtherwise bytes messages
+IsReadingFault bytes messages _ = ⊥

@@ -1,0 +1,4 @@
+pub mod MessagesHere
+pub mod MessagesFile
+pub mod TextFiles
+pub mod FileFaults
