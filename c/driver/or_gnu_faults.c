@@ -24,6 +24,7 @@ static const struct language {
 } languages[] = {
     {KOB_PYTHON_FORMAT, "python-format", "Python ", read_python_format, python_difference},
     {KOB_PYTHON_BRACE_FORMAT, "python-brace-format", "Python brace ", read_brace_format, brace_difference},
+    {KOB_JAVA_FORMAT, "java-format", "Java MessageFormat ", NULL, NULL},
     {KOB_JAVASCRIPT_FORMAT, "javascript-format", "JavaScript ", NULL, NULL},
     {KOB_SH_FORMAT, "sh-format", "Shell ", NULL, NULL},
     {KOB_QT_FORMAT, "qt-format", "Qt ", NULL, NULL},

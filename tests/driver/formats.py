@@ -43,6 +43,11 @@ PERL_FAULTS = ("%", "%y", "%hhd", "%0$s", "%01$s", "%lf", "%he", "%a", "%v05d", 
 SCRIPT = ("%s", "%s", "%d", "%s", "%1$s", "%1$s", "%2$d", "%x", "%j", "%1$j", "%f", "%c", "%%", "%5%", "%I05d", "%-5.2f", "%.f", "%4294967297$s")
 # No number but 1 has two kinds: GNU msgfmt 0.21 looks for any object in a wrong place if a number before is left out.
 SCRIPT_FAULTS = ("%", "%y", "%i", "%u", "%e", "%0$s", "%'5s", "%#x", "%*d", "%ld", "%1$d", "%1$", "%.", "%\u00e9")
+JAVA = ("{0}", "{0}", "{1}", "{1}", "{2,number}", "{2,number,integer}", "{2,number,#,##0.00}", "{3,date}", "{3,time,short}", "{2}",
+        "{3,date,yyyy{''}}", "{2,choice,0#{0}|1#x}", "{2,choice,-1#a|1<{2,number}}", "{4,choice}", "''", "'{'", "{4294967296}", "\\\\",
+        "{2,choice,0#''{1}''}", "{2,choice,0\\\\u2264{2,choice,0#{1}'|'1#{0}}}", "{2,number,0\\\\u0023;#}")  # fmt: skip
+JAVA_FAULTS = ("{", "}", "{}", "{a}", "{0", "{-1}", "{0,}", "{0,text}", "{2,date}", "{3,numbers}", "{2,number,x}", "{2,number,'#'}",
+               "{2,number,0;}", "{2,choice,#x}", "{2,choice,0|1#x}", "{2,choice,0#'{'}", "{3,choice,0#{3,date}}", "'", "{2,number,\\\\u0030}")  # fmt: skip
 # The other languages that are checked, each with directives and with faults.
 OTHERS = {
     "kde-format": (tuple(text for text in NUMBERS if text[1] not in "Ln0") + ("%1", "%2"), NUMBER_FAULTS),
@@ -54,6 +59,7 @@ OTHERS = {
     "php-format": (PHP, PHP_FAULTS),
     "perl-format": (PERL, PERL_FAULTS),
     "javascript-format": (SCRIPT, SCRIPT_FAULTS),
+    "java-format": (JAVA, JAVA_FAULTS),
 }
 FAULT = re.compile(rb"^[^\n:]*:(\d+): (.*)$")
 COUNT = re.compile(rb"^[^\n]*: found (\d+) fatal errors?$")

@@ -71,6 +71,9 @@ fault 'Perl, no such size' perl-format '%s' '%hhd' "'msgstr' is not a valid Perl
 fault 'JavaScript, any object' javascript-format '%s' '%j' "$differ"
 fault 'JavaScript, numbers and none' javascript-format '%s %d' '%s %2$d' \
   "'msgstr' is not a valid JavaScript format string, unlike 'msgid'."
+fault 'Java, an object for a number' java-format '{0,number}' '{0}' "$differ"
+fault 'Java, a brace that closes nothing' java-format '{0}' '{0}}' \
+  "'msgstr' is not a valid Java MessageFormat format string, unlike 'msgid'."
 fault 'the shell, another name' sh-format '$a' '${b}' "$differ"
 fault 'the shell, no name' sh-format '$a' '$a $1' "'msgstr' is not a valid Shell format string, unlike 'msgid'."
 
@@ -113,6 +116,7 @@ served 'no fault of two' ours 'python-format, python-brace-format' '%d {a}' '{a}
 served 'no fault, KDE' ours kde-format '%1 %2' '%2 %1' -c
 served 'no fault, Perl' ours perl-brace-format '{a}' '{a} {b}' -c
 served 'no fault, JavaScript' ours javascript-format '%s %d' '%2$x %1$s' -c
+served 'no fault, Java' ours java-format '{0,number} {1}' '{1} {0,choice,0#no|1<{0}}' -c
 served 'fuzzy' ours 'fuzzy, python-format' '%d' '%s' -c
 served 'fuzzy and used' 'GNU\t1\tpython-format' 'fuzzy, python-format' '%d' '%s' -c -f
 served 'untranslated' ours python-format '%d' '' -c

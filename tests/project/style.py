@@ -42,6 +42,7 @@ PARTS = (
     "Interface to gettext",
     "Locale Names",
     "Locating Catalogs",
+    "Java Format Strings",
     "JavaScript Format Strings",
     "KDE Format Strings",
     "MO Files",

@@ -11,7 +11,7 @@ use Rattle.format_arguments.specs.declared.FormatFault.{FormatFault}
 use Rattle.format_arguments.specs.declared.FormatFault.TheVariants.{Invalid}
 use Rattle.format_arguments.specs.declared.Strictness.{Strictness}
 use Rattle.format_flags.specs.declared.languages.Language.TheVariants.{Python, PythonBrace, Shell, Qt, QtPlural, Kde}
-use Rattle.format_flags.specs.declared.languages.Language.TheVariants.{JavaScript, Perl, PerlBrace, Php, Ycp}
+use Rattle.format_flags.specs.declared.languages.Language.TheVariants.{Java, JavaScript, Perl, PerlBrace, Php, Ycp}
 use Rattle.format_flags.specs.declared.languages.Language.TheVariants.{ObjectiveC}
 use Rattle.format_checks.specs.FormatLanguages.{Asked, Named, Numbered, Lists, HasFault, IsNoFormat}
 use Rattle.format_flags.specs.FormatFlags.{has}
@@ -159,6 +159,10 @@ no_shell : (text : List ℕ) → HasFault Shell text Invalid → (asked : Asked)
 no_shell text none (Named asked) x = none asked x
 no_shell text none (Numbered asked) x = x
 
+no_java : (text : List ℕ) → HasFault Java text Invalid → (asked : Asked) → Lists Java text asked → ⊥
+no_java text none (Named asked) x = x
+no_java text none (Numbered asked) x = none asked x
+
 no_javascript : (text : List ℕ) → HasFault JavaScript text Invalid → (asked : Asked) → Lists JavaScript text asked → ⊥
 no_javascript text none (Named asked) x = x
 no_javascript text none (Numbered asked) x = none asked x
@@ -191,6 +195,7 @@ pub no_format : (language : Language) (text : List ℕ) (fault : FormatFault) �
     → HasFault language text fault → IsNoFormat language text
 no_format Python text fault is has = no_python text (rw is at has)
 no_format PythonBrace text fault is has = no_brace text (rw is at has)
+no_format Java text fault is has = no_java text (rw is at has)
 no_format JavaScript text fault is has = no_javascript text (rw is at has)
 no_format Shell text fault is has = no_shell text (rw is at has)
 no_format Qt text fault is has = no_qt text (rw is at has)

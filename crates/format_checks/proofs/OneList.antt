@@ -21,7 +21,7 @@ use Rattle.php_format.specs.PhpFormat as php_format
 use Rattle.php_format.proofs.PhpDirectiveLemmas as php_lemmas
 use Rattle.format_flags.specs.declared.languages.Language.{Language}
 use Rattle.format_flags.specs.declared.languages.Language.TheVariants.{Python, PythonBrace, Shell, Qt, QtPlural, Kde}
-use Rattle.format_flags.specs.declared.languages.Language.TheVariants.{JavaScript, Perl, PerlBrace, Php, Ycp}
+use Rattle.format_flags.specs.declared.languages.Language.TheVariants.{Java, JavaScript, Perl, PerlBrace, Php, Ycp}
 use Rattle.named_formats.specs.declared.Notation.{Notation as Names}
 use Rattle.named_formats.specs.declared.Notation.TheVariants as names
 use Rattle.named_formats.specs.NameDirectives as name_directives
@@ -38,6 +38,7 @@ use Rattle.script_formats.specs.Collecting.{asks as script_asks}
 use Rattle.script_formats.specs.ScriptDirectives as script_directives
 use Rattle.script_formats.specs.ScriptFormat as script_formats
 use Rattle.script_formats.proofs.ScriptDirectiveLemmas as script_lemmas
+use Rattle.java_formats.proofs.ReadingLemmas.{one_list as one_of_java}
 use Rattle.format_checks.specs.declared.Difference.{Difference}
 use Rattle.format_checks.specs.declared.Difference.TheVariants.{Invalid, Arguments}
 use Rattle.format_checks.specs.declared.Fault.{Fault}
@@ -79,6 +80,10 @@ one_arguments Php text (Numbered a) (Numbered b) x y = ap (λ (asked : List code
     (one_list_of percent php.DirectiveAt php_lemmas.are_directives requests_of php_format.fits text a b x y)
 one_arguments Php text (Numbered a) (Named b) x y = absurd y
 one_arguments Php text (Named a) b x y = absurd x
+one_arguments Java text (Numbered a) (Numbered b) x y = ap (λ (asked : List code_numbered.Numbered). Numbered asked)
+    (one_of_java text a b x y)
+one_arguments Java text (Numbered a) (Named b) x y = absurd y
+one_arguments Java text (Named a) b x y = absurd x
 one_arguments JavaScript text (Numbered a) (Numbered b) x y = one_of_script scripts.JavaScript text a b x y
 one_arguments JavaScript text (Numbered a) (Named b) x y = absurd y
 one_arguments JavaScript text (Named a) b x y = absurd x

@@ -13,7 +13,7 @@ use Rattle.python_brace_format.specs.BraceAgreement as brace_agreement
 use Rattle.php_format.specs.PhpFormat as php
 use Rattle.format_flags.specs.declared.languages.Language.{Language}
 use Rattle.format_flags.specs.declared.languages.Language.TheVariants.{Python, PythonBrace, Shell, Qt, QtPlural, Kde}
-use Rattle.format_flags.specs.declared.languages.Language.TheVariants.{JavaScript, Perl, PerlBrace, Php, Ycp}
+use Rattle.format_flags.specs.declared.languages.Language.TheVariants.{Java, JavaScript, Perl, PerlBrace, Php, Ycp}
 use Rattle.named_formats.specs.declared.Notation.TheVariants as names
 use Rattle.named_formats.specs.NameFormat as named_formats
 use Rattle.numbered_formats.specs.declared.Notation.TheVariants as numbers
@@ -21,6 +21,7 @@ use Rattle.numbered_formats.specs.NumberFormat as numbered_formats
 use Rattle.numbered_formats.specs.NumberAgreement as number_agreement
 use Rattle.script_formats.specs.declared.Notation.TheVariants as scripts
 use Rattle.script_formats.specs.ScriptFormat as script_formats
+use Rattle.java_formats.specs.JavaFormat as java_formats
 
 -- the arguments of a format: by their names or in the order of the text, or by their numbers
 pub data Asked : Type 0 where
@@ -32,6 +33,7 @@ pub data Asked : Type 0 where
 abbrev pub Lists : Language → List ℕ → Asked → Type 0
 Lists Python text (Named asked) = python.HasSignature text asked
 Lists PythonBrace text (Named asked) = brace.HasSignature text asked
+Lists Java text (Numbered asked) = java_formats.HasSignature text asked
 Lists JavaScript text (Numbered asked) = script_formats.HasSignature scripts.JavaScript text asked
 Lists Shell text (Named asked) = named_formats.HasSignature names.Shell text asked
 Lists Qt text (Numbered asked) = numbered_formats.HasSignature numbers.Qt text asked
@@ -46,6 +48,7 @@ Lists _ text asked = ⊥
 abbrev pub HasFault : Language → List ℕ → FormatFault → Type 0
 HasFault Python text fault = python.HasFault text fault
 HasFault PythonBrace text fault = brace.HasFault text fault
+HasFault Java text fault = java_formats.HasFault text fault
 HasFault JavaScript text fault = script_formats.HasFault scripts.JavaScript text fault
 HasFault Shell text fault = named_formats.HasFault names.Shell text fault
 HasFault Qt text fault = numbered_formats.HasFault numbers.Qt text fault

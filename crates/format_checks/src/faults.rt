@@ -89,6 +89,7 @@ fn add_language_faults(
 const CHECKED: &[Language] = &[
     Language::Python,
     Language::PythonBrace,
+    Language::Java,
     Language::JavaScript,
     Language::Shell,
     Language::Qt,

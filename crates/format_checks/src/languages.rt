@@ -29,6 +29,7 @@ fn signature(alloc: Global, language: Language, text: &[u8]) -> Result<Asked<'_>
     match language {
         Language::Python => Ok(Asked::Named(python_format::signature(alloc, text)?)),
         Language::PythonBrace => Ok(Asked::Named(python_brace_format::signature(alloc, text)?)),
+        Language::Java => Ok(Asked::Numbered(java_formats::signature(alloc, text)?)),
         Language::JavaScript => {
             Ok(Asked::Numbered(script_formats::signature(alloc, Scripts::JavaScript, text)?))
         }

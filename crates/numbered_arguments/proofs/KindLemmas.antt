@@ -13,7 +13,7 @@ use Rattle.numbered_arguments.specs.NumberedKinds.{same_size, same_kind, kinds_f
 use Rattle.numbered_arguments.specs.declared.Size.{Size}
 use Rattle.numbered_arguments.specs.declared.Size.TheVariants.{Plain, Short, Long, LongLong, Native}
 use Rattle.numbered_arguments.specs.declared.Kind.TheVariants.{Any, Character, Text, Integer, Unsigned, Float, Vector}
-use Rattle.numbered_arguments.specs.declared.Kind.TheVariants.{Pointer, Count}
+use Rattle.numbered_arguments.specs.declared.Kind.TheVariants.{Pointer, Count, Object, Number, Date}
 
 size_is : (a b : Size) → same_size a b ≡ true → a ≡ b
 size_is Plain Plain h = refl
@@ -33,6 +33,9 @@ kind_is (Float a) (Float b) h = ap (λ (s : Size). Float s) (size_is a b h)
 kind_is Vector Vector h = refl
 kind_is Pointer Pointer h = refl
 kind_is (Count a) (Count b) h = ap (λ (s : Size). Count s) (size_is a b h)
+kind_is Object Object h = refl
+kind_is Number Number h = refl
+kind_is Date Date h = refl
 kind_is _ _ h = absurd (cc h)
 
 abbrev argument : ℕ → Kind → Numbered

@@ -4,7 +4,7 @@ use Rattle.numbered_arguments.specs.declared.Size.{Size}
 use Rattle.numbered_arguments.specs.declared.Size.TheVariants.{Plain, Short, Long, LongLong, Native}
 use Rattle.numbered_arguments.specs.declared.Kind.{Kind}
 use Rattle.numbered_arguments.specs.declared.Kind.TheVariants.{Any, Character, Text, Integer, Unsigned, Float, Vector}
-use Rattle.numbered_arguments.specs.declared.Kind.TheVariants.{Pointer, Count}
+use Rattle.numbered_arguments.specs.declared.Kind.TheVariants.{Pointer, Count, Object, Number, Date}
 
 abbrev pub same_size : Size → Size → Bool
 same_size Plain Plain = true
@@ -24,6 +24,9 @@ same_kind (Float one) (Float other) = same_size one other
 same_kind Vector Vector = true
 same_kind Pointer Pointer = true
 same_kind (Count one) (Count other) = same_size one other
+same_kind Object Object = true
+same_kind Number Number = true
+same_kind Date Date = true
 same_kind _ _ = false
 
 abbrev pub is_any : Kind → Bool

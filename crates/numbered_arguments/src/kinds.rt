@@ -24,7 +24,10 @@ pub fn same_kind(one: Kind, other: Kind) -> bool
         | (Kind::Character, Kind::Character)
         | (Kind::Text, Kind::Text)
         | (Kind::Vector, Kind::Vector)
-        | (Kind::Pointer, Kind::Pointer) => true,
+        | (Kind::Pointer, Kind::Pointer)
+        | (Kind::Object, Kind::Object)
+        | (Kind::Number, Kind::Number)
+        | (Kind::Date, Kind::Date) => true,
         (Kind::Integer(one), Kind::Integer(other))
         | (Kind::Unsigned(one), Kind::Unsigned(other))
         | (Kind::Float(one), Kind::Float(other))

@@ -48,6 +48,12 @@ pub enum Kind {
     Pointer,
     /// a pointer to a number that is set
     Count(Size),
+    /// an object, where that is a kind of its own and doesn't stand for every other
+    Object,
+    /// a number of whatever type
+    Number,
+    /// a date or a time
+    Date,
 }
 
 /// An argument that a format asks for: the one at this place of the call, where the first has number 1.
