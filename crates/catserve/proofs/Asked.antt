@@ -1,11 +1,12 @@
 -- What desks are asked, and what they have answered.
 use Rattle.std.proofs.Common.{◌≡◌, ◌≢◌, ◌∙◌, refl, sym, ap, ℕ, zero, suc, ◌+◌, ◌<◌, ◌≤◌, max, List, [], ◌∷◌, drop, ◌++◌}
-use Rattle.std.proofs.Common.{length, take, set, All, arith, length-append, get_or}
+use Rattle.std.proofs.Common.{length, take, set, All, arith, length-append, get_or, Bool, false}
+use Rattle.std.specs.Prelude.{nat_lt, ◌||◌}
 use Rattle.std.proofs.Math.Seq.{take-append_seam}
 use Rattle.std.proofs.lemmas.List.{append-nil, length-map, take_all}
 use Rattle.std.proofs.lemmas.List.Elements.{All-nil, All-cons, filter_map-append}
-use Rattle.std.proofs.lemmas.Bool.{ne_eqb, eq-eqb}
-use Rattle.std.specs.List.{AllZip}
+use Rattle.std.proofs.lemmas.Bool.{false≢true, lt-ltb, ne_eqb, eq-eqb}
+use Rattle.std.specs.List.{AllZip, list_any}
 use Rattle.std.specs.String.{string_bytes}
 use Rattle.live_set.specs.Loads.{LoadValue}
 use Rattle.live_set.specs.Asks.{QueryValue, IsAnswer}
@@ -20,8 +21,8 @@ use Rattle.desks.specs.declared.desk.Desk.{Desk}
 use Rattle.script_text.specs.Script.{QuestionValue, query_for, queries_for}
 use Rattle.catserve.specs.Output.{answer_line}
 use Rattle.catserve.specs.Rounds.{Answers, AnswersInTurn}
-use Rattle.catserve.specs.Asking.{readers_of, AreAsked, GivesOne, answer_lines, desk_lines, IsFreed}
-use Rattle.catserve.specs.Running.{AreReady}
+use Rattle.catserve.specs.Asking.{readers_of, AreAsked, GivesOne, answer_lines, desk_lines, is_asked, IsFreed}
+use Rattle.catserve.specs.Running.{AreReady, HaveBook}
 use Rattle.live_loads.proofs.Joining.{joined-append}
 
 -- ---- questions
@@ -152,7 +153,41 @@ answers_in_turn start end questions worker (desk ∷ asked) (s ∷ served) same 
 )
 answers_in_turn start end questions worker _ _ same given all = absurd all
 
+-- the list is empty, and so are the others
+none_here : (queries : List QueryValue) (others : Bool) → (nat_lt 0 (length queries) || others) ≡ false
+    → (queries ≡ []) × (others ≡ false)
+none_here [] others none = (refl, none)
+none_here (query ∷ queries) others none =
+    absurd (false≢true (sym (rw (lt-ltb 0 (length (query ∷ queries)) (omega arith)) at none)))
+
+-- desks without questions have nothing to answer
+pub none_in_turn : (loads : List LoadValue) (questions : List QuestionValue) (worker : ℕ) (desks : List Desk)
+    → AreAsked worker questions desks → list_any is_asked desks ≡ false
+    → AnswersInTurn loads questions worker (length desks) []
+none_in_turn loads questions worker [] asked none = refl
+none_in_turn loads questions worker (desk ∷ desks) asked none =
+    let (here, others) = none_here desk.queries.items (list_any is_asked desks) none in (
+      [],
+      [],
+      rw (sym asked.0 ∙ here) ([], tt, refl),
+      none_in_turn loads questions (worker + 1) desks asked.1 others,
+      refl,
+    )
+
 -- ---- from round to round
+
+-- desks without questions are ready for the next round
+pub ready_still : (was now : SeenValue) (desks : List Desk) → now.book ≡ was.book → HaveBook was desks
+    → list_any is_asked desks ≡ false → AreReady now desks
+ready_still was now desks same book none = record {
+  book = λ k reader below. book k reader below ∙ sym same;
+  free = frees 0 desks none;
+} where
+  frees : (worker : ℕ) (desks : List Desk) → list_any is_asked desks ≡ false → AreAsked worker [] desks
+  frees worker [] none = tt
+  frees worker (desk ∷ desks) none =
+      let (here, others) = none_here desk.queries.items (list_any is_asked desks) none in
+      (here, frees (worker + 1) desks others)
 
 -- desks that were served and freed are ready for the next round
 pub ready_again : (start : SeenValue) {end : SeenValue} (asked served : List Desk) {freed : List Desk}

@@ -2,6 +2,7 @@ pub mod Writing
 pub mod Batching
 pub mod Turns
 pub mod Asked
+pub mod Questions
 pub mod Playing
 pub mod Sources
 pub mod OneOutput

@@ -18,13 +18,14 @@ use Rattle.script_text.proofs.Parsing.{both_empty}
 use Rattle.script_text.specs.declared.fault.ScriptKind.{ScriptKind}
 use Rattle.script_text.specs.declared.fault.ScriptKind.TheVariants as kind
 use Rattle.catserve.specs.Rounds.{PlaysAll}
-use Rattle.catserve.specs.Running.{IsPlayKind}
+use Rattle.catserve.specs.Running.{IsOpenKind}
 use Rattle.catserve.specs.Session.{said, round_end, HaveEnded, StopsBehind, AnswersAll, StopsEarly, EndsFor}
 use Rattle.catserve.specs.Session.{most_lines, BreaksOff}
 use Rattle.catserve.specs.Hearing.{HearingValue, HasTaken, Stays, HearsBad, HearsEnd, HearsNone, HearsNoLine, Begins}
 use Rattle.catserve.specs.Hearing.{silence, unheard, HasPassed, FailsInPreamble, HearsTooMuch, HearsUndecodable}
 use Rattle.catserve.specs.Talking.{PlayerValue, AnswersRound, BreaksRound, FailsToAnswer, IsFresh, Conversing}
 use Rattle.catserve.proofs.Playing.{plays_all}
+use Rattle.catserve.proofs.Questions.{asked_some}
 use Rattle.catserve.proofs.LinesTaken.{stays_put, taken_none, taken_then}
 use Rattle.catserve.proofs.SessionLines.{ended_so, follows_all, heard_none}
 use Rattle.catserve.proofs.SessionHears.{fails_later}
@@ -70,7 +71,7 @@ stops_so {i} {j} {k} {y} {front} {lost} a s =
       written = a.written;
     }
 
-stops_early : {given : Option ℕ} {i j k : InputSeen} {o o' : OutputSeen} {y z : HearingValue} {front : List (List ℕ)}
+abbrev stops_early : {given : Option ℕ} {i j k : InputSeen} {o o' : OutputSeen} {y z : HearingValue} {front : List (List ℕ)}
     {lost : List ℕ} → Answered given i j o o' y front → Stays j k y z lost → StopsEarly given i k o o'
 stops_early {z} {front} {lost} a s = record {
   front = front;
@@ -278,17 +279,23 @@ breaks_off {o'} {z} fresh c s h b =
 
 -- a round isn't answered
 pub fails_so : {given : Option ℕ} {first i j k : InputSeen} {o o' : OutputSeen} (o'' : OutputSeen)
-    {x y z : HearingValue} {workers : ℕ} {start talk : PlayerValue} (why : ScriptKind) → IsFresh workers start
-    → Conversing workers i j o o' x y start talk → Stays j k y z [] → FailsToAnswer talk o' o'' why
+    {x y z : HearingValue} {workers : ℕ} {start talk : PlayerValue} (after : PlayerValue) (why : ScriptKind) → IsFresh workers start
+    → Conversing workers i j o o' x y start talk → Stays j k y z [] → FailsToAnswer talk after o' o'' why
     → Begins given first i x workers → EndsFor given first k o o'' why 0
-fails_so {given} {first} {k} {o} {o'} o'' {talk} why fresh c s h b =
-    by_kind why h (λ same. subst (λ out. StopsEarly given first k o out) (sym same)
-    (stops_early (answered b c fresh) s))
-  where
-    by_kind : (why : ScriptKind) → FailsToAnswer talk o' o'' why → (o'' ≡ o' → StopsEarly given first k o o'')
-        → EndsFor given first k o o'' why 0
-    by_kind kind.WriteFault h early = (breaks_off fresh c s h b, rw c.steady at h.failed, refl)
-    by_kind _ h early = search
+fails_so o'' after kind.WriteFault fresh c s h b = (breaks_off fresh c s h b, rw c.steady at h.failed, refl)
+fails_so o'' {talk} after kind.Closed fresh c s ((some, found), same) b = rw same (
+  record {
+    early = stops_early (answered b c fresh) s;
+    asked = omega (
+      arith,
+      asked_some talk.desks 0 c.g.current.questions c.talked.asked some,
+      length-append c.g.current.questions [],
+    );
+  },
+  refl,
+)
+fails_so o'' after kind.Memory fresh c s h b = rw h.1 (stops_early (answered b c fresh) s, refl)
+fails_so o'' after _ fresh c s h b = absurd h.0
 
 -- the input has ended, and these are the rounds
 all_said : {given : Option ℕ} {first i j k : InputSeen} {o o' o'' : OutputSeen} {x y z : HearingValue}
@@ -347,16 +354,18 @@ last_answered {o} {o'} {o''} {talk} fresh c h busy answers b =
 -- ---- before anything was heard after the front
 
 -- no store was opened
-pub stops_begun : {given : Option ℕ} {first i : InputSeen} {o : OutputSeen} {x : HearingValue} {workers : ℕ}
+abbrev pub stops_begun : {given : Option ℕ} {first i : InputSeen} {o : OutputSeen} {x : HearingValue} {workers : ℕ}
     → Begins given first i x workers → StopsEarly given first i o o
 stops_begun {x} b = stops_early (none_answered b.taken b.number b.size
     (rw (append-nil b.front) at (ended_so x b taken_none (heard_none (omega (arith, b.number)))))) stays_put
 
 -- no player was opened, for this reason
 pub stops_unopened : {given : Option ℕ} {first i : InputSeen} (o : OutputSeen) {x : HearingValue} {workers : ℕ}
-    → Begins given first i x workers → (why : ScriptKind) → IsPlayKind why → EndsFor given first i o o why 0
-stops_unopened o b kind.ReadFault h = absurd h
-stops_unopened o b _ h = search (stops_begun {o = o} b)
+    → Begins given first i x workers → (why : ScriptKind) → IsOpenKind why → EndsFor given first i o o why 0
+stops_unopened o b kind.NoPlace h =
+    (record { early = stops_begun {o = o} b; none_ended = refl; unwritten = refl }, refl)
+stops_unopened o b kind.Memory h = (stops_begun {o = o} b, refl)
+stops_unopened o b _ h = absurd h
 
 -- the number of workers is given
 abbrev pub begins_so : {i : InputSeen} {workers : ℕ} → Begins (Some workers) i i unheard workers

@@ -10,4 +10,6 @@ use Rattle.catserve.specs.Running.{EndsPlaying}
 pub run_fails : {i i' : InputSeen} (o o' : OutputSeen) {text : List ℕ} (k : ScriptKind) (line : ℕ)
     → ReadsText i i' text → EndsPlaying text k line → o' ≡ o → Fails i i' o o' k line
 run_fails o o' kind.Memory line read h same = (same, h)
+run_fails o o' kind.Closed line read ((value, is), some, none) same =
+    (record { text = _; read = read; value = value; is = is; unwritten = same }, some, none)
 run_fails o o' _ line read h same = search

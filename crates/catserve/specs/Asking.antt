@@ -1,5 +1,5 @@
 -- Private: what the desks of the workers are asked, and what is written of their answers.
-use Rattle.std.specs.Prelude.{◌≡◌, ⊤, ℕ, zero, suc, ◌+◌, List, [], ◌∷◌, ◌++◌, map}
+use Rattle.std.specs.Prelude.{◌≡◌, ⊤, ℕ, zero, suc, ◌+◌, Bool, nat_lt, List, [], ◌∷◌, ◌++◌, length, map}
 use Rattle.std.specs.List.{flat_map}
 use Rattle.std.specs.String.{string_bytes}
 use Rattle.live_set.specs.Asks.{QueryValue}
@@ -18,6 +18,10 @@ abbrev pub AreAsked : ℕ → List QuestionValue → List Desk → Type 0
 AreAsked worker questions [] = ⊤
 AreAsked worker questions (desk ∷ desks) = (desk.queries.items ≡ queries_for worker questions)
     × AreAsked (worker + 1) questions desks
+
+-- the desk has a question
+abbrev pub is_asked : Desk → Bool
+is_asked desk = nat_lt 0 (length desk.queries.items)
 
 -- one more query was given to the desk with this number, if there is one
 abbrev pub GivesOne : List Desk → ℕ → QueryValue → List Desk → Type 0

@@ -1,12 +1,13 @@
 -- What a run of a script does to the reader and the writer that it is given.
-use Rattle.std.specs.Prelude.{◌≡◌, ◌⊎◌, ℕ, ◌+◌, List, Result, Ok, Err}
+use Rattle.std.specs.Prelude.{◌≡◌, ◌⊎◌, ℕ, ◌+◌, ◌<◌, List, length, Result, Ok, Err}
+use Rattle.std.specs.List.{sum_by}
 use Rattle.std.specs.Io.KnownBytes.{Appends, Consumes}
 use Rattle.devices.specs.Devices.{AppendsFront, InputSeen, IsFront, OutputSeen, RisesBy, most_reads}
 use Rattle.script_text.specs.declared.fault.ScriptFault.{ScriptFault}
 use Rattle.script_text.specs.declared.fault.ScriptKind.{ScriptKind}
 use Rattle.script_text.specs.declared.fault.ScriptKind.TheVariants.{TooLarge, NotUtf8, BadLine, ReadFault, WriteFault}
-use Rattle.script_text.specs.declared.fault.ScriptKind.TheVariants.{Memory}
-use Rattle.script_text.specs.Script.{ScriptValue}
+use Rattle.script_text.specs.declared.fault.ScriptKind.TheVariants.{NoPlace, Closed, Join, Memory}
+use Rattle.script_text.specs.Script.{RoundValue, ScriptValue}
 use Rattle.script_text.specs.Texts.{IsRefused, IsScript, most_script}
 use Rattle.catserve.specs.Rounds.{HasOutput}
 
@@ -48,7 +49,7 @@ pub record IsUnwritable (i i' : InputSeen) (o o' : OutputSeen) : Type 0 where
   pub front : AppendsFront o.bytes o'.bytes output
   pub failed : RisesBy 1 o.failures o'.failures
 
--- the text that was read is a script, for which there is no store or no thread, and nothing was written
+-- the text that was read is a script, which wasn't played to its end, and nothing was written
 pub record StopsScript (i i' : InputSeen) (o o' : OutputSeen) : Type 0 where
   pub text : List ℕ
   pub read : ReadsText i i' text
@@ -56,7 +57,12 @@ pub record StopsScript (i i' : InputSeen) (o o' : OutputSeen) : Type 0 where
   pub is : IsScript text value
   pub unwritten : o' ≡ o
 
--- a run fails for this, at this line; after it ran out of memory nothing was written either
+-- how many questions some rounds have
+abbrev pub question_count : List RoundValue → ℕ
+question_count rounds = sum_by (λ (round : RoundValue). length round.questions) rounds
+
+-- A run fails for this, at this line. After it ran out of memory nothing was written either. Only a script that has a
+-- question finds its store closed, and no thread is ever missing.
 abbrev pub Fails : InputSeen → InputSeen → OutputSeen → OutputSeen → ScriptKind → ℕ → Type 0
 Fails i i' o o' TooLarge line = RefusesText i i' o o' TooLarge line
 Fails i i' o o' NotUtf8 line = RefusesText i i' o o' NotUtf8 line
@@ -64,7 +70,9 @@ Fails i i' o o' BadLine line = RefusesText i i' o o' BadLine line
 Fails i i' o o' ReadFault line = IsUnreadable i i' o o' × (line ≡ 0)
 Fails i i' o o' WriteFault line = IsUnwritable i i' o o' × (line ≡ 0)
 Fails i i' o o' Memory line = (o' ≡ o) × (line ≡ 0)
-Fails i i' o o' kind line = StopsScript i i' o o' × (line ≡ 0)
+Fails i i' o o' NoPlace line = StopsScript i i' o o' × (line ≡ 0)
+Fails i i' o o' Closed line = (stops : StopsScript i i' o o') × (0 < question_count stops.value.rounds) × (line ≡ 0)
+Fails i i' o o' Join line = ⊥
 
 -- what a run did, by its answer
 abbrev pub Runs : {T : Type 0} → InputSeen → InputSeen → OutputSeen → OutputSeen → Result T ScriptFault → Type 0

@@ -1,7 +1,7 @@
 -- Private: the steps of a run.
-use Rattle.std.specs.Prelude.{◌≡◌, ⊤, ℕ, ◌+◌, ◌≤◌, List, [], ◌∷◌, ◌++◌, All, Option, Result, Ok, Err}
+use Rattle.std.specs.Prelude.{◌≡◌, ◌⊎◌, ⊤, ℕ, ◌+◌, ◌<◌, ◌≤◌, true, List, [], ◌∷◌, ◌++◌, All, Option, Result, Ok, Err}
 use Rattle.std.specs.Io.KnownBytes.{Appends}
-use Rattle.std.specs.List.{AllZip, filter_map, flat_map}
+use Rattle.std.specs.List.{AllZip, filter_map, flat_map, list_any}
 use Rattle.live_set.specs.Loads.{LoadValue}
 use Rattle.script_text.specs.declared.fault.ScriptKind.{ScriptKind}
 use Rattle.script_text.specs.declared.fault.ScriptKind.TheVariants.{ReadFault, WriteFault, NoPlace, Closed, Join}
@@ -11,11 +11,14 @@ use Rattle.live_versions.specs.Seen.{SeenValue}
 use Rattle.live_versions.specs.Store.{StoreValue}
 use Rattle.live_loads.specs.declared.fault.StoreFault.{StoreFault}
 use Rattle.live_loads.specs.declared.fault.StoreFault.TheVariants as store_fault
+use Rattle.live_versions.specs.declared.fault.OpenFault.{OpenFault}
+use Rattle.live_versions.specs.declared.fault.OpenFault.TheVariants as open_fault
 use Rattle.desks.specs.declared.job.Accepted as job
 use Rattle.desks.specs.declared.job.Accepted.TheVariants as accepted
 use Rattle.desks.specs.declared.desk.Desk.{Desk}
-use Rattle.catserve.specs.Asking.{readers_of, AreAsked}
+use Rattle.catserve.specs.Asking.{readers_of, AreAsked, is_asked}
 use Rattle.script_text.specs.Script.{load_count}
+use Rattle.desks.specs.Desks.{EndsAhead}
 use Rattle.desks.specs.Jobs as jobs
 use Rattle.desks.specs.declared.desk.ServeFault.{ServeFault}
 use Rattle.desks.specs.declared.desk.ServeFault.TheVariants as fault
@@ -25,7 +28,7 @@ use Rattle.catserve.specs.Output.{accepted_line, accepted_mo_line, refused_line,
 use Rattle.catserve.specs.Rounds.{Outcome, IsOutcome, outcome_line, accepted_load, Plays, PlaysAll}
 use Rattle.script_text.specs.Texts.{IsRefused, IsScript}
 use Rattle.devices.specs.Devices.{InputSeen}
-use Rattle.catserve.specs.Run.{FailsToRead}
+use Rattle.catserve.specs.Run.{FailsToRead, question_count}
 
 -- the desks' readers are those of a store
 abbrev pub HaveBook : SeenValue → List Desk → Type 0
@@ -97,6 +100,12 @@ pub record HasPlayed (workers : ℕ) (rounds : List RoundValue) (was now : Store
   pub few : version_of now.seen.batches ≤ version_of was.seen.batches + load_count rounds
   pub most : now.most ≡ was.most
 
+-- the fault of an opening as an error of a script: no store has a place for so many readers
+abbrev pub kind_of_open : OpenFault → ScriptKind
+kind_of_open open_fault.BadCount = NoPlace
+kind_of_open open_fault.NoPlace = NoPlace
+kind_of_open open_fault.Memory = Memory
+
 -- the fault of a service as an error of a script
 abbrev pub kind_of : ServeFault → ScriptKind
 kind_of fault.Memory = Memory
@@ -104,18 +113,19 @@ kind_of fault.Ahead = Closed
 kind_of fault.Join = Join
 kind_of fault.Closed = Closed
 
--- the rounds of a script fail for these alone
-abbrev pub IsPlayKind : ScriptKind → Type 0
-IsPlayKind NoPlace = ⊤
-IsPlayKind Closed = ⊤
-IsPlayKind Join = ⊤
-IsPlayKind Memory = ⊤
-IsPlayKind _ = ⊥
+-- a store isn't opened for these alone
+abbrev pub IsOpenKind : ScriptKind → Type 0
+IsOpenKind NoPlace = ⊤
+IsOpenKind Memory = ⊤
+IsOpenKind _ = ⊥
 
--- if they fail, it is for one of these
-abbrev pub IsPlayFault : {T : Type 0} → Result T ScriptKind → Type 0
-IsPlayFault (Ok x) = ⊤
-IsPlayFault (Err kind) = IsPlayKind kind
+-- why a round isn't finished: a desk has a question, and a reader found the store closed, or has seen more than is
+-- published; or memory ran out
+abbrev pub FailsToFinish : (asked : List Desk) (end : SeenValue) (after : List Desk) → ScriptKind → Type 0
+FailsToFinish asked end after Closed = (list_any is_asked asked ≡ true)
+    × (EndsAhead end after fault.Closed ⊎ EndsAhead end after fault.Ahead)
+FailsToFinish asked end after Memory = ⊤
+FailsToFinish asked end after _ = ⊥
 
 -- these commands were played, and their output was written
 abbrev pub HasPlayedAll : ℕ → List Command → (old new : Option (List ℕ)) → Type 0
@@ -123,9 +133,16 @@ HasPlayedAll workers commands old new = (output : List ℕ) × PlaysAll workers 
     × Appends old new output
 
 -- or they weren't, for one of these
-abbrev pub CutsShort : ScriptKind → Type 0
-CutsShort WriteFault = ⊤
-CutsShort kind = IsPlayKind kind
+abbrev pub CutsShort : List Command → ScriptKind → Type 0
+CutsShort commands WriteFault = ⊤
+CutsShort commands Closed = 0 < question_count (rounds_of commands)
+CutsShort commands Memory = ⊤
+CutsShort commands _ = ⊥
+
+-- why a script has no output if its lines are written to memory: there only memory can stop the writer
+abbrev pub kind_in_memory : ScriptKind → ScriptKind
+kind_in_memory WriteFault = Memory
+kind_in_memory kind = kind
 
 -- why a script wasn't read
 abbrev pub EndsReading : InputSeen → InputSeen → ScriptKind → ℕ → Type 0
@@ -142,6 +159,6 @@ abbrev pub EndsPlaying : List ℕ → ScriptKind → ℕ → Type 0
 EndsPlaying text ReadFault line = ⊥
 EndsPlaying text WriteFault line = ⊥
 EndsPlaying text NoPlace line = IsSomeScript text × (line ≡ 0)
-EndsPlaying text Closed line = IsSomeScript text × (line ≡ 0)
-EndsPlaying text Join line = IsSomeScript text × (line ≡ 0)
+EndsPlaying text Closed line = (is : IsSomeScript text) × (0 < question_count is.0.rounds) × (line ≡ 0)
+EndsPlaying text Join line = ⊥
 EndsPlaying text kind line = IsRefused text kind line

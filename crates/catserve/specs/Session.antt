@@ -14,6 +14,7 @@ use Rattle.script_text.specs.Script.{RoundValue, ScriptValue, commands_from, scr
 use Rattle.script_text.specs.Texts.{most_script}
 use Rattle.script_text.specs.declared.fault.ScriptKind.{ScriptKind}
 use Rattle.script_text.specs.declared.fault.ScriptKind.TheVariants.{TooLarge, NotUtf8, BadLine, ReadFault, WriteFault}
+use Rattle.script_text.specs.declared.fault.ScriptKind.TheVariants.{NoPlace, Closed, Join, Memory}
 use Rattle.catserve.specs.declared.session_fault.SessionFault.{SessionFault}
 use Rattle.catserve.specs.Rounds.{PlaysAll}
 use Rattle.catserve.specs.Run.{FailsToRead}
@@ -144,6 +145,17 @@ pub record BreaksOff (given : Option ℕ) (i i' : InputSeen) (o o' : OutputSeen)
   pub plays : PlaysAll stops.workers [] (stops.rounds ++ stops.ended_are.last ∷ []) (stops.output ++ lines)
   pub written : AppendsFront mid.bytes o'.bytes lines
 
+-- no store was opened: no round has ended, and nothing was written
+pub record NeverOpens (given : Option ℕ) (i i' : InputSeen) (o o' : OutputSeen) : Type 0 where
+  pub early : StopsEarly given i i' o o'
+  pub none_ended : early.stops.rounds ≡ []
+  pub unwritten : o' ≡ o
+
+-- the open round has a question, and the store was closed
+pub record FindsClosed (given : Option ℕ) (i i' : InputSeen) (o o' : OutputSeen) : Type 0 where
+  pub early : StopsEarly given i i' o o'
+  pub asked : 0 < length early.stops.ended_are.last.questions
+
 -- why a session ends early
 abbrev pub EndsFor : Option ℕ → InputSeen → InputSeen → OutputSeen → OutputSeen → ScriptKind → ℕ → Type 0
 EndsFor given i i' o o' TooLarge line = MeetsTooMuch given i i' o o' line
@@ -151,7 +163,10 @@ EndsFor given i i' o o' NotUtf8 line = MeetsUndecodable given i i' o o' line
 EndsFor given i i' o o' BadLine line = MeetsBadLine given i i' o o' line
 EndsFor given i i' o o' ReadFault line = StopsEarly given i i' o o' × FailsToRead i i' × (line ≡ 0)
 EndsFor given i i' o o' WriteFault line = BreaksOff given i i' o o' × RisesBy 1 o.failures o'.failures × (line ≡ 0)
-EndsFor given i i' o o' kind line = StopsEarly given i i' o o' × (line ≡ 0)
+EndsFor given i i' o o' NoPlace line = NeverOpens given i i' o o' × (line ≡ 0)
+EndsFor given i i' o o' Closed line = FindsClosed given i i' o o' × (line ≡ 0)
+EndsFor given i i' o o' Join line = ⊥
+EndsFor given i i' o o' Memory line = StopsEarly given i i' o o' × (line ≡ 0)
 
 -- what a session did, by its answer
 abbrev pub Converses : {T : Type 0} → Option ℕ → InputSeen → InputSeen → OutputSeen → OutputSeen

@@ -13,10 +13,10 @@ use Rattle.script_text.specs.Script.{Command, Load, Ask, Go, commands_from, scri
 use Rattle.script_text.specs.ScriptFields.{most_workers}
 use Rattle.script_text.specs.Gathering.{Gathered, going_on, loads_so_far}
 use Rattle.script_text.specs.declared.fault.ScriptKind.{ScriptKind}
-use Rattle.script_text.specs.declared.fault.ScriptKind.TheVariants.{WriteFault, NoPlace, Closed, Join, Memory}
+use Rattle.script_text.specs.declared.fault.ScriptKind.TheVariants.{WriteFault}
 use Rattle.catserve.specs.declared.session_fault.SessionFault.{SessionFault}
 use Rattle.catserve.specs.Asking.{AreAsked, GivesOne}
-use Rattle.catserve.specs.Running.{AreReady, Finishes, HasLoaded, HasPlayed, HaveBook, LoadsOne}
+use Rattle.catserve.specs.Running.{AreReady, FailsToFinish, Finishes, HasLoaded, HasPlayed, HaveBook, LoadsOne}
 use Rattle.catserve.specs.Session.{HaveEnded, Converses}
 use Rattle.catserve.specs.Hearing.{HearingValue, HasTaken, Begins}
 
@@ -68,14 +68,10 @@ pub record BreaksRound (old : PlayerValue) (o o' : OutputSeen) : Type 0 where
   pub front : AppendsFront o.bytes o'.bytes lines
   pub failed : RisesBy 1 o.failures o'.failures
 
--- why a round isn't answered
-abbrev pub FailsToAnswer : PlayerValue → OutputSeen → OutputSeen → ScriptKind → Type 0
-FailsToAnswer old o o' WriteFault = BreaksRound old o o'
-FailsToAnswer old o o' NoPlace = o' ≡ o
-FailsToAnswer old o o' Closed = o' ≡ o
-FailsToAnswer old o o' Join = o' ≡ o
-FailsToAnswer old o o' Memory = o' ≡ o
-FailsToAnswer old o o' _ = ⊥
+-- why a round isn't answered: its lines couldn't be written; or it wasn't finished, and nothing was written
+abbrev pub FailsToAnswer : PlayerValue → PlayerValue → OutputSeen → OutputSeen → ScriptKind → Type 0
+FailsToAnswer old new o o' WriteFault = BreaksRound old o o'
+FailsToAnswer old new o o' kind = FailsToFinish old.desks new.store.seen new.desks kind × (o' ≡ o)
 
 -- a player before its first round, with this number of workers
 pub record IsFresh (workers : ℕ) (talk : PlayerValue) : Type 0 where

@@ -1,7 +1,7 @@
 //! The desks of the workers: they are given questions, and their answers are written.
 ghost use Rattle.std.specs.Prelude.{◌≡◌, ◌+◌, ◌≤◌, ◌<◌, ◌^◌, ◌++◌, [], List, OnOk, IfOk, length, map};
-ghost use Rattle.std.specs.List.{AllZip};
-ghost use Rattle.catserve.specs.Asking.{readers_of, AreAsked, GivesOne, answer_lines, desk_lines, IsFreed};
+ghost use Rattle.std.specs.List.{AllZip, list_any};
+ghost use Rattle.catserve.specs.Asking.{readers_of, AreAsked, GivesOne, answer_lines, desk_lines, is_asked, IsFreed};
 
 use crate::output::write_answer;
 use desks::{Answer, Desk};
@@ -35,6 +35,13 @@ pub(crate) fn give(desks: &mut [Desk], worker: u32, query: Query) -> Result<(), 
         desks[index].queries.push(query)?;
     }
     Ok(())
+}
+
+/// Whether a desk has a question.
+pub(crate) fn any_asked(desks: &[Desk]) -> bool
+    ensures { result ≡ list_any is_asked desks.now }
+{
+    desks.iter().any(|desk| !desk.queries.is_empty())
 }
 
 /// Writes a worker's answers. Each is freed once it is written, since together they are as long as the output.

@@ -4,7 +4,7 @@ ghost use Rattle.live_versions.specs.Store.{HasRoom};
 ghost use Rattle.script_text.specs.ScriptFields.{most_workers};
 ghost use Rattle.catserve.specs.Hearing.{command_of};
 ghost use Rattle.devices.specs.Devices.{output_seen};
-ghost use Rattle.catserve.specs.Running.{HaveBook, IsPlayFault, load_of};
+ghost use Rattle.catserve.specs.Running.{HaveBook, IsOpenKind, kind_of_open, load_of};
 ghost use Rattle.catserve.specs.Talking.{FailsToAnswer, GivesQuestion, IsFresh, MakesLoad};
 ghost use Rattle.catserve.specs.Timing.{GivesRound, GivesSome, RespondsInTime};
 
@@ -39,16 +39,25 @@ impl Model for Player {
     ghost view = { λ t. record { store = t.publisher; desks = t.desks.items; held = t.held.items; begun = t.begun } };
 }
 
+/// The fault of an opening as an error of a script.
+fn kind_of_open(fault: OpenFault) -> ScriptKind
+    ensures { result ≡ kind_of_open fault }
+{
+    match fault {
+        OpenFault::BadCount | OpenFault::NoPlace => ScriptKind::NoPlace,
+        OpenFault::Memory => ScriptKind::Memory,
+    }
+}
+
 impl Player {
     /// Opens a store with this number of workers.
     pub(crate) fn open<T: Wait>(rt: &T, alloc: Global, workers: u32) -> Result<Player, ScriptKind>
         ensures ok { IfOk result (λ player. IsFresh workers player) }
-        ensures fault { IsPlayFault result }
+        ensures fault { IfErr result IsOpenKind }
     {
         let (publisher, readers) = match open_store(rt, alloc, workers, u64::MAX) {
             Ok(opened) => opened,
-            Err(OpenFault::Memory) => return Err(ScriptKind::Memory),
-            Err(_) => return Err(ScriptKind::NoPlace),
+            Err(fault) => return Err(kind_of_open(fault)),
         };
         match open_desks(alloc, readers) {
             Ok(desks) => Ok(Player {
@@ -116,7 +125,7 @@ impl Player {
             IfOk result (λ _. GivesRound self.old self.new (output writer.old) (output writer.new) (W.log writer.old)
             (W.log writer.new)) }
         ensures fault { let output = output_seen W.contents W.failures in
-            IfErr result (λ kind. FailsToAnswer self.old (output writer.old) (output writer.new) kind) }
+            IfErr result (λ kind. FailsToAnswer self.old self.new (output writer.old) (output writer.new) kind) }
         ensures broken { IfErr result (λ _. GivesSome (W.log writer.old) (W.log writer.new)) }
         ensures keeps { W.input writer.new ≡ W.input writer.old }
     {
@@ -152,7 +161,7 @@ impl Player {
             IfOk result (λ _. RespondsInTime (command_of heard) self.old self.new (output writer.old)
             (output writer.new) (W.log writer.old) (W.log writer.new)) }
         ensures fault { let output = output_seen W.contents W.failures in
-            IfErr result (λ kind. FailsToAnswer self.old (output writer.old) (output writer.new) kind) }
+            IfErr result (λ kind. FailsToAnswer self.old self.new (output writer.old) (output writer.new) kind) }
         ensures broken { IfErr result (λ _. GivesSome (W.log writer.old) (W.log writer.new)) }
         ensures keeps { W.input writer.new ≡ W.input writer.old }
     {

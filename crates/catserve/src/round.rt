@@ -1,9 +1,9 @@
 //! The end of a round: its loads are published, and its questions are answered.
-ghost use Rattle.std.specs.Prelude.{◌≡◌, ◌≤◌, IfOk, OnOk, length, vec_len};
+ghost use Rattle.std.specs.Prelude.{◌≡◌, ◌≤◌, IfOk, IfErr, OnOk, length, vec_len};
 ghost use Rattle.script_text.specs.ScriptFields.{most_workers};
-ghost use Rattle.catserve.specs.Running.{AreReady, Finishes, HaveBook, IsPlayFault, kind_of};
+ghost use Rattle.catserve.specs.Running.{AreReady, FailsToFinish, Finishes, HaveBook, kind_of};
 
-use crate::asking::write_all;
+use crate::asking::{any_asked, write_all};
 use crate::output::write_version;
 use desks::{Desk, Gate, Place, ServeFault, serve};
 use live_versions::Publisher;
@@ -30,7 +30,8 @@ fn kind_of(fault: ServeFault) -> ScriptKind
     }
 }
 
-/// Publishes the loads that a round has made, and answers what its workers are asked; writes the lines of both.
+/// Publishes the loads that a round has made, and answers what its workers are asked; writes the lines of both. If no
+/// worker is asked, no reader enters the store.
 pub(crate) fn finish<R: Threads + Wait + Sync>(
     rt: &R,
     alloc: Global,
@@ -44,12 +45,15 @@ pub(crate) fn finish<R: Threads + Wait + Sync>(
         publisher.new output.new.items) }
     ensures ready { OnOk result (AreReady publisher.new.seen desks.new.items) }
     ensures count { OnOk result (vec_len desks.new ≡ vec_len desks.old) }
-    ensures fault { IsPlayFault result }
+    ensures fault { IfErr result (FailsToFinish desks.old.items publisher.new.seen desks.new.items) }
 {
     let Ok(version) = publisher.publish(rt) else {
         return Err(ScriptKind::Memory);
     };
     write_version(alloc, output, version)?;
+    if !any_asked(desks.as_slice()) {
+        return Ok(());
+    }
     let _served = match serve(rt, alloc, publisher, desks, Vec::new(alloc), &OpenGate) {
         Ok(served) => served,
         Err(fault) => return Err(kind_of(fault)),

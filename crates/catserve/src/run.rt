@@ -1,11 +1,11 @@
 //! A run of a script over a reader and a writer.
-ghost use Rattle.std.specs.Prelude.{IfOk, IfErr, length};
+ghost use Rattle.std.specs.Prelude.{◌≡◌, IfOk, IfErr, length};
 ghost use Rattle.std.specs.List.{flat_map};
 ghost use Rattle.script_text.specs.CommandValues.{listed};
 ghost use Rattle.catserve.specs.Rounds.{HasOutput};
 ghost use Rattle.catserve.specs.Run.{ReadsText, Runs};
 ghost use Rattle.devices.specs.Devices.{input_seen, output_seen};
-ghost use Rattle.catserve.specs.Running.{CutsShort, EndsPlaying, EndsReading, HasPlayedAll};
+ghost use Rattle.catserve.specs.Running.{CutsShort, EndsPlaying, EndsReading, HasPlayedAll, kind_in_memory};
 ghost use Rattle.catserve.specs.Talking.{IsFresh};
 
 use crate::hearing::Heard;
@@ -27,7 +27,7 @@ fn play_all<T: Threads + Wait + Sync, W: Sink>(
     requires { IsFresh (length player.old.desks) player.old }
     ensures ok { IfOk result (λ _. HasPlayedAll (length player.old.desks) (flat_map listed lines.entry.items)
         (W.contents writer.old) (W.contents writer.new)) }
-    ensures fault { IfErr result CutsShort }
+    ensures fault { IfErr result (CutsShort (flat_map listed lines.entry.items)) }
 {
     'lines: for said in lines {
         let Said { line, text } = said;
@@ -38,6 +38,16 @@ fn play_all<T: Threads + Wait + Sync, W: Sink>(
         player.answer(rt, alloc, writer)?;
     }
     Ok(())
+}
+
+/// The error of a script whose lines are written to memory: there only memory can stop the writer.
+fn kind_in_memory(kind: ScriptKind) -> ScriptKind
+    ensures { result ≡ kind_in_memory kind }
+{
+    match kind {
+        ScriptKind::WriteFault => ScriptKind::Memory,
+        other => other,
+    }
 }
 
 /// The output of a text that is a script. Its store has a reader for each worker.
@@ -56,8 +66,7 @@ fn output_of<T: Threads + Wait + Sync>(
     player.end(rt);
     match played {
         Ok(()) => Ok(output.inner),
-        Err(ScriptKind::WriteFault) => Err(ScriptFault::from(ScriptKind::Memory)),
-        Err(kind) => Err(ScriptFault::from(kind)),
+        Err(kind) => Err(ScriptFault::from(kind_in_memory(kind))),
     }
 }
 
@@ -80,7 +89,8 @@ fn read_text<R: Source>(alloc: Global, reader: &mut R) -> Result<Vec<u8>, Script
 /// Each round's loads are made and published, and then the workers answer the round's questions, all at once
 /// (`desks::serve`). The line `workers` gives their number; without it there are two. At most 67,108,865 bytes are
 /// read, in at most 134,217,728 reads. After a `WriteFault` a prefix of the output was written, and after any other
-/// fault nothing was. `NoPlace`, `Closed` and `Join` are returned only for a text that is a script.
+/// fault nothing was. `NoPlace` is returned only for a text that is a script, `Closed` only for a script with a
+/// question, and `Join` never.
 pub fn run_script<T: Threads + Wait + Sync, R: Source, W: Sink>(
     rt: &T,
     alloc: Global,

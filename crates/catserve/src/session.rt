@@ -73,7 +73,7 @@ fn converse_by_store<T: Threads + Wait + Sync, D: Source + Sink>(
 /// A round has at most 67,108,864 bytes, counting the lines in it that say nothing, and a session at most 2^63 lines.
 /// At most 134,217,728 reads are made for each line; the number of reads of a session isn't limited. After a fault the
 /// rounds that ended before it have been answered, and nothing of the open one was written, unless a write failed: then
-/// a prefix of that round's lines was.
+/// a prefix of that round's lines was. `Closed` is returned only if the open round has a question, and `Join` never.
 pub fn run_session<T: Threads + Wait + Sync, D: Source + Sink>(
     rt: &T,
     alloc: Global,

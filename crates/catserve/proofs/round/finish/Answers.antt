@@ -1,9 +1,10 @@
-use Rattle.std.proofs.Common.{◌≡◌, ◌∙◌, ◌++◌, refl, sym, ap, arith}
-use Rattle.live_versions.specs.Batches.{version_of}
+use Rattle.std.proofs.Common.{◌≡◌, ◌∙◌, ◌++◌, refl, sym, ap, arith, []}
+use Rattle.std.proofs.lemmas.List.{append-nil}
+use Rattle.live_versions.specs.Batches.{joined, version_of}
 use Rattle.live_versions.specs.Store.{StoreValue}
 use Rattle.live_versions.specs.Seen.{SeenValue}
 use Rattle.catserve.specs.Asking.{desk_lines}
-use Rattle.catserve.proofs.Asked.{answers_in_turn, ready_again, books_given, whole_of, done_none}
+use Rattle.catserve.proofs.Asked.{answers_in_turn, ready_again, ready_still, books_given, none_in_turn, whole_of, done_none}
 use Rattle.catserve.proofs.Playing.{plays_one}
 use Rattle.catserve.proofs.round.finish.Goals as goal
 
@@ -11,6 +12,23 @@ pub serve-requires-clause-book : goal.serve-requires-clause-book
 serve-requires-clause-book g c κs within =
     books_given c.args.publisher.now.seen c.publish.new.self.seen c.args.desks.now.items c.args.desks.now.items refl
     c.in-Ok.ensures.book c.requires.book
+
+pub returns-then-not-any_asked-clause-ok : goal.returns-then-not-any_asked-clause-ok
+returns-then-not-any_asked-clause-ok g c round was before none loaded asked =
+    let published = c.publish.new.self in
+    let written = c.write_version.new.output.items in
+    let nobody = rw c.as_slice.ensures.value at (sym c.any_asked.ensures ∙ c.if-not-any_asked.true) in
+    plays_one c.args.publisher.now c.in-Ok.version written [] none loaded.loaded loaded.seen
+    (ap (λ (f : SeenValue). f.batches) c.in-Ok.ensures.ok) c.in-Ok.ensures.empty (c.in-Ok.ensures.most ∙ loaded.most)
+    c.in-Ok.ensures.version c.in_ok-write_version.ensures
+    (none_in_turn (joined published.seen.batches) round.questions 0 c.args.desks.now.items asked nobody)
+    (sym (append-nil written))
+
+pub returns-then-not-any_asked-clause-ready : goal.returns-then-not-any_asked-clause-ready
+returns-then-not-any_asked-clause-ready g c =
+    let nobody = rw c.as_slice.ensures.value at (sym c.any_asked.ensures ∙ c.if-not-any_asked.true) in
+    ready_still c.args.publisher.now.seen c.publish.new.self.seen c.args.desks.now.items c.in-Ok.ensures.book
+    c.requires.book nobody
 
 pub returns-clause-ok : goal.returns-clause-ok
 returns-clause-ok g c round was before none loaded asked =

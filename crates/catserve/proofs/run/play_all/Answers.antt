@@ -1,6 +1,7 @@
-use Rattle.std.proofs.Common.{◌∙◌, refl, sym, ap, length, arith, rules, length-append}
+use Rattle.std.proofs.Common.{◌≡◌, ◌∙◌, refl, sym, ap, length, arith, rules, length-append, Err}
 use Rattle.std.specs.Vec.Iter.{into_iter_items}
 use Rattle.devices.specs.Devices.{OutputSeen, output_seen}
+use Rattle.catserve.proofs.Questions.{cuts_short}
 use Rattle.catserve.proofs.ScriptTalk.{comes_more, comes_none, plays_idle, plays_last, room_for}
 use Rattle.catserve.proofs.Turns.{takes_one, takes_all}
 use Rattle.catserve.proofs.run.play_all.Goals as goal
@@ -32,6 +33,28 @@ lines-preserved g c =
       come = comes_more o o' (g.W.Device.log at.writer) (g.W.Device.log c.respond.new.writer) x at.invariant.come
           (rw c.said.view_is at (rw bytes at c.in_ok-respond.ensures.ok));
     }
+
+pub returns-in_err-respond-clause-fault : goal.returns-in_err-respond-clause-fault
+returns-in_err-respond-clause-fault g c =
+    let at = c.lines in
+    let o : OutputSeen = output_seen g.W.Sink.contents g.W.Sink.failures at.writer in
+    let o' : OutputSeen = output_seen g.W.Sink.contents g.W.Sink.failures c.respond.new.writer in
+    let why = c.in_err-respond.field-0.0 in
+    let is : c.from_residual-in_err-respond.result ≡ Err why = search rules in
+    rw is (cuts_short at.player c.respond.new.self o o' at.yielded (into_iter_items at.said-iterator) c.args.lines.items
+    why at.invariant.come.talked.asked
+    (at.invariant.taken.whole ∙ c.into_iter-said-iterator.ensures.into_iter_gives.0) c.in_err-respond.ensures.fault)
+
+pub returns-in_err-answer-clause-fault : goal.returns-in_err-answer-clause-fault
+returns-in_err-answer-clause-fault g c =
+    let at = c.lines in
+    let o : OutputSeen = output_seen g.W.Sink.contents g.W.Sink.failures at.writer in
+    let o' : OutputSeen = output_seen g.W.Sink.contents g.W.Sink.failures c.answer.new.writer in
+    let why = c.in_err-answer.field-0.0 in
+    let is : c.from_residual-in_err-answer.result ≡ Err why = search rules in
+    rw is (cuts_short at.player c.answer.new.self o o' at.yielded (into_iter_items at.said-iterator) c.args.lines.items
+    why at.invariant.come.talked.asked
+    (at.invariant.taken.whole ∙ c.into_iter-said-iterator.ensures.into_iter_gives.0) c.in_err-answer.ensures.fault)
 
 pub returns-in_ok-answer-clause-ok : goal.returns-in_ok-answer-clause-ok
 returns-in_ok-answer-clause-ok g c =

@@ -48,7 +48,7 @@ returns-in_err-respond-clause-all g c given first b =
     ∙ g.met.D.Sink.shows c.lines.device in
     let inn = sym (g.met.D.Source.sees c.respond.new.writer) ∙ c.in_err-respond.ensures.keeps
     ∙ g.met.D.Source.sees c.hear.new.reader in
-    rw (inn, e.1, e.2) (fails_so q c.in_err-respond.field-0.0 c.requires.fresh c.lines.invariant.0
+    rw (inn, e.1, e.2) (fails_so q c.respond.new.self c.in_err-respond.field-0.0 c.requires.fresh c.lines.invariant.0
     (taken_stays c.hear.new.self h.taken) (rw out at c.in_err-respond.ensures.fault) b)
 
 pub returns-in_err-answer-clause-all : goal.returns-in_err-answer-clause-all
@@ -60,7 +60,7 @@ returns-in_err-answer-clause-all g c given first b =
     ∙ g.met.D.Sink.shows c.lines.device in
     let inn = sym (g.met.D.Source.sees c.answer.new.writer) ∙ c.in_err-answer.ensures.keeps
     ∙ g.met.D.Source.sees c.hear.new.reader in
-    rw (inn, e.1, e.2) (fails_so q c.in_err-answer.field-0.0 c.requires.fresh c.lines.invariant.0
+    rw (inn, e.1, e.2) (fails_so q c.answer.new.self c.in_err-answer.field-0.0 c.requires.fresh c.lines.invariant.0
     (record { got = h.got; number = h.number; size = h.size }) (rw out at c.in_err-answer.ensures.fault) b)
 
 pub returns-in_ok-answer-clause-all : goal.returns-in_ok-answer-clause-all
