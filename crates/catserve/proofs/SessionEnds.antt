@@ -71,8 +71,9 @@ stops_so {i} {j} {k} {y} {front} {lost} a s =
       written = a.written;
     }
 
-abbrev stops_early : {given : Option ℕ} {i j k : InputSeen} {o o' : OutputSeen} {y z : HearingValue} {front : List (List ℕ)}
-    {lost : List ℕ} → Answered given i j o o' y front → Stays j k y z lost → StopsEarly given i k o o'
+abbrev stops_early : {given : Option ℕ} {i j k : InputSeen} {o o' : OutputSeen} {y z : HearingValue}
+    {front : List (List ℕ)} {lost : List ℕ} → Answered given i j o o' y front → Stays j k y z lost
+    → StopsEarly given i k o o'
 stops_early {z} {front} {lost} a s = record {
   front = front;
   text = a.taken.more ++ s.got.more;
@@ -279,9 +280,9 @@ breaks_off {o'} {z} fresh c s h b =
 
 -- a round isn't answered
 pub fails_so : {given : Option ℕ} {first i j k : InputSeen} {o o' : OutputSeen} (o'' : OutputSeen)
-    {x y z : HearingValue} {workers : ℕ} {start talk : PlayerValue} (after : PlayerValue) (why : ScriptKind) → IsFresh workers start
-    → Conversing workers i j o o' x y start talk → Stays j k y z [] → FailsToAnswer talk after o' o'' why
-    → Begins given first i x workers → EndsFor given first k o o'' why 0
+    {x y z : HearingValue} {workers : ℕ} {start talk : PlayerValue} (after : PlayerValue) (why : ScriptKind)
+    → IsFresh workers start → Conversing workers i j o o' x y start talk → Stays j k y z []
+    → FailsToAnswer talk after o' o'' why → Begins given first i x workers → EndsFor given first k o o'' why 0
 fails_so o'' after kind.WriteFault fresh c s h b = (breaks_off fresh c s h b, rw c.steady at h.failed, refl)
 fails_so o'' {talk} after kind.Closed fresh c s ((some, found), same) b = rw same (
   record {

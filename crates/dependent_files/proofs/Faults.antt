@@ -13,7 +13,7 @@ use Rattle.dependent_files.specs.FileFaults.{IsCatalogueFault, IsReadingFault, I
 use Rattle.dependent_files.specs.TextFiles.{HasFileAny, HasNoFileAny, IsFileOf, MeansAny, RefusesAny}
 use Rattle.dependent_files.specs.declared.compiler.DependentFile.{DependentFile}
 use Rattle.dependent_files.specs.declared.fault.FileFault.{FileFault}
-use Rattle.dependent_files.specs.declared.fault.FileFault.TheVariants.{Text, TooLarge, NotItself, Catalogue}
+use Rattle.dependent_files.specs.declared.fault.FileFault.TheVariants.{Text, TooLarge, NotReadBack, Catalogue}
 
 -- ---- the file
 
@@ -22,14 +22,14 @@ pub no_map : (statics : List Strings) (ds : List Dependent) (fault : FileFault) 
 no_map statics ds (Text fault) h = h
 no_map statics ds (Catalogue fault) h = inl h
 no_map statics ds TooLarge h = absurd h
-no_map statics ds NotItself h = absurd h
+no_map statics ds NotReadBack h = absurd h
 
 pub unwritten : (statics : List Strings) (ds : List Dependent) (map : List Entry) (fault : FileFault)
     → IsCatalogueOf statics map → IsWritingFault map ds fault → HasNoFile statics ds fault
 unwritten statics ds map (Text fault) is h = h
 unwritten statics ds map TooLarge is h = record { map = map; is_map = is; too_large = h }
 unwritten statics ds map (Catalogue fault) is h = absurd h
-unwritten statics ds map NotItself is h = absurd h
+unwritten statics ds map NotReadBack is h = absurd h
 
 pub none_written : {X : Type 0} (statics : List Strings) (ds : List Dependent) (map : List Entry)
     (r : Result X FileFault) → IsCatalogueOf statics map → IfErr r (IsWritingFault map ds)
@@ -47,7 +47,7 @@ pub misread : (statics messages : List Strings) (ds : List Dependent) (bytes : L
     → messages ≡ messages_here statics ds → IsWritten statics ds bytes → IsReadingFault bytes messages fault
     → HasNoFile statics ds fault
 misread statics messages ds bytes (Text fault) e written h = h
-misread statics messages ds bytes NotItself e written h =
+misread statics messages ds bytes NotReadBack e written h =
     record { bytes = bytes; written = written; otherwise = rw (sym e) h }
 misread statics messages ds bytes TooLarge e written h = absurd h
 misread statics messages ds bytes (Catalogue fault) e written h = absurd h
@@ -57,7 +57,7 @@ pub no_catalogue : (statics messages : List Strings) (ds : List Dependent) (faul
 no_catalogue statics messages ds (Text fault) e h = h
 no_catalogue statics messages ds (Catalogue fault) e h = inr (rw (sym e) h)
 no_catalogue statics messages ds TooLarge e h = absurd h
-no_catalogue statics messages ds NotItself e h = absurd h
+no_catalogue statics messages ds NotReadBack e h = absurd h
 
 -- ---- the text
 
@@ -70,7 +70,7 @@ module _ (text : List ℕ) (o : Options) (compiled : DependentCompiled) (means :
       → HasNoFileAny text o fault
   lacks (Text fault) h = subst (RefusesAny text o) (sym h) (inl refl)
   lacks TooLarge h = (compiled, means, h)
-  lacks NotItself h = (compiled, means, h)
+  lacks NotReadBack h = (compiled, means, h)
   lacks (Catalogue fault) h = (compiled, means, h)
 
   pub unmade : {X : Type 0} (r : Result X FileFault)

@@ -9,7 +9,7 @@ use Rattle.mo_dependent.specs.declared.split.Dependent.{Dependent}
 use Rattle.mo_dependent.specs.declared.fault.WriteFault.TheVariants as write
 use Rattle.dependent_files.specs.MessagesFile.{LacksCatalogue, ReadsOtherwise}
 use Rattle.dependent_files.specs.declared.fault.FileFault.{FileFault}
-use Rattle.dependent_files.specs.declared.fault.FileFault.TheVariants.{Text, TooLarge, NotItself, Catalogue}
+use Rattle.dependent_files.specs.declared.fault.FileFault.TheVariants.{Text, TooLarge, NotReadBack, Catalogue}
 
 -- the messages have no catalogue, or out of memory
 abbrev pub IsCatalogueFault : List Strings → FileFault → Type 0
@@ -26,5 +26,5 @@ IsWritingFault m dependents _ = ⊥
 -- the file doesn't read as these messages, or out of memory
 abbrev pub IsReadingFault : List ℕ → List Strings → FileFault → Type 0
 IsReadingFault bytes messages (Text fault) = fault ≡ Load out_of_memory
-IsReadingFault bytes messages NotItself = ReadsOtherwise bytes messages
+IsReadingFault bytes messages NotReadBack = ReadsOtherwise bytes messages
 IsReadingFault bytes messages _ = ⊥

@@ -19,7 +19,7 @@ use Rattle.mo_revisions.specs.declared.fault.AnyMoFault.{AnyMoFault}
 use Rattle.mo_revisions.specs.declared.fault.AnyMoFault.TheVariants.{Dependent as OfPart, Mo as OfMo}
 use Rattle.dependent_files.specs.MessagesHere.{messages_here}
 use Rattle.dependent_files.specs.declared.fault.FileFault.{FileFault}
-use Rattle.dependent_files.specs.declared.fault.FileFault.TheVariants.{Text, TooLarge, NotItself, Catalogue}
+use Rattle.dependent_files.specs.declared.fault.FileFault.TheVariants.{Text, TooLarge, NotReadBack, Catalogue}
 
 -- ---- the file
 
@@ -62,7 +62,7 @@ pub record IsTooLarge (statics : List Strings) (dependents : List Dependent) : T
   pub too_large : IsWriteFault map dependents write.TooLarge
 
 -- the file that was written doesn't read as the messages that this machine has
-pub record IsNotItself (statics : List Strings) (dependents : List Dependent) : Type 0 where
+pub record IsNotReadBack (statics : List Strings) (dependents : List Dependent) : Type 0 where
   pub bytes : List ℕ
   pub written : IsWritten statics dependents bytes
   pub otherwise : ReadsOtherwise bytes (messages_here statics dependents)
@@ -71,6 +71,6 @@ pub record IsNotItself (statics : List Strings) (dependents : List Dependent) : 
 abbrev pub HasNoFile : List Strings → List Dependent → FileFault → Type 0
 HasNoFile statics dependents (Text fault) = fault ≡ Load out_of_memory
 HasNoFile statics dependents TooLarge = IsTooLarge statics dependents
-HasNoFile statics dependents NotItself = IsNotItself statics dependents
+HasNoFile statics dependents NotReadBack = IsNotReadBack statics dependents
 HasNoFile statics dependents (Catalogue fault) =
     LacksCatalogue statics fault ⊎ LacksCatalogue (messages_here statics dependents) fault

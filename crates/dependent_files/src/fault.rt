@@ -21,8 +21,8 @@ pub enum FileFault {
     TooLarge,
     /// The file that was written doesn't read as the messages. This was never seen, and would be a defect of this
     /// library.
-    #[error("file reads otherwise")]
-    NotItself,
+    #[error("file not read back")]
+    NotReadBack,
     /// The static messages, or all messages as this machine has them, have no catalogue.
     #[error("{0}")]
     Catalogue(MoFault),

@@ -97,7 +97,7 @@ fn check_reading(alloc: Global, file: &[u8], messages: &[Strings]) -> Result<(),
     match read_messages(alloc, file) {
         Ok(read) if are_same(read.as_slice(), messages) => Ok(()),
         Err(fault) if is_out_of_memory(fault) => Err(FileFault::from(AllocError)),
-        _ => Err(FileFault::NotItself),
+        _ => Err(FileFault::NotReadBack),
     }
 }
 

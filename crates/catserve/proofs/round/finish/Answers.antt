@@ -4,7 +4,8 @@ use Rattle.live_versions.specs.Batches.{joined, version_of}
 use Rattle.live_versions.specs.Store.{StoreValue}
 use Rattle.live_versions.specs.Seen.{SeenValue}
 use Rattle.catserve.specs.Asking.{desk_lines}
-use Rattle.catserve.proofs.Asked.{answers_in_turn, ready_again, ready_still, books_given, none_in_turn, whole_of, done_none}
+use Rattle.catserve.proofs.Asked.{answers_in_turn, ready_again, ready_still, books_given, none_in_turn, whole_of}
+use Rattle.catserve.proofs.Asked.{done_none}
 use Rattle.catserve.proofs.Playing.{plays_one}
 use Rattle.catserve.proofs.round.finish.Goals as goal
 

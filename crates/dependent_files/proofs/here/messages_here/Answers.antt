@@ -18,11 +18,11 @@ dependents-preserved c =
       | in-Some+in_ok-push w ↦ ap (λ (v : Vec Strings Global). strings_of v.items) w.messages-is
           ∙ ap strings_of w.in_ok-push.ensures.items
           ∙ map-append strings_in c.dependents.messages.items (w.in-Some.message ∷ [])
-          ∙ one_known statics ds i (i + 1) d (strings_of c.dependents.messages.items) (omega arith) lt c.dependent-item.is
-          c.dependents.invariant w.in-Some.message
+          ∙ one_known statics ds i (i + 1) d (strings_of c.dependents.messages.items) (omega arith) lt
+          c.dependent-item.is c.dependents.invariant w.in-Some.message
           (sym (ap (λ (o : Option Strings). option_map strings_in o) w.in-Some.is) ∙ c.in_ok-message.ensures)
       | in_default w ↦ ap (λ (v : Vec Strings Global). strings_of v.items) w.messages-is
-          ∙ one_unknown statics ds i (i + 1) d (strings_of c.dependents.messages.items) (omega arith) lt c.dependent-item.is
-          c.dependents.invariant
+          ∙ one_unknown statics ds i (i + 1) d (strings_of c.dependents.messages.items) (omega arith) lt
+          c.dependent-item.is c.dependents.invariant
           (sym (ap (λ (o : Option Strings). option_map strings_in o) w.in_default.is) ∙ c.in_ok-message.ensures)
     ]
