@@ -1,5 +1,7 @@
--- What a PO text whose formats may name macros compiles to, in any charset, and its MO file (GNU gettext manual, "msgfmt
--- Invocation"; "c-format"). GNU msgfmt converts a text in another charset to UTF-8, since its version 0.22.
+-- What a PO text whose formats may name macros compiles to, in any charset, and its MO file (GNU gettext manual,
+-- "msgfmt Invocation"; "c-format").
+
+-- GNU msgfmt converts a text in another charset to UTF-8, since its version 0.22.
 use Rattle.std.specs.Prelude.{◌≡◌, ◌⊎◌, ℕ, List}
 use Rattle.po_checks.specs.Refusal.{out_of_memory}
 use Rattle.po_checks.specs.declared.options.Options.{Options}

@@ -36,8 +36,8 @@ fn compile_recoded(
 
 /// Compiles a PO text whose C formats may name macros, in UTF-8 or in any charset of `charsets`.
 ///
-/// A text in UTF-8 is compiled and refused as by `compile_dependent`. One that is refused for its charset is decoded, if
-/// the header at its front names a charset of `charsets`, and its header then says `charset=UTF-8`.
+/// A text in UTF-8 is compiled and refused as by `compile_dependent`. One that is refused for its charset is decoded,
+/// if the header at its front names a charset of `charsets`, and its header then says `charset=UTF-8`.
 pub fn compile_dependent_any(
     alloc: Global,
     text: &[u8],

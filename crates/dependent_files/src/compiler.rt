@@ -53,8 +53,8 @@ fn file_of(alloc: Global, compiled: DependentCompiled) -> Result<DependentFile, 
     })
 }
 
-/// Compiles a PO text whose C formats may name macros of `<inttypes.h>`, in UTF-8 or in any charset of `charsets`, to its
-/// MO file and to the catalogue of its messages as x86-64 Linux has them (GNU gettext manual, "msgfmt Invocation";
+/// Compiles a PO text whose C formats may name macros of `<inttypes.h>`, in UTF-8 or in any charset of `charsets`, to
+/// its MO file and to the catalogue of its messages as x86-64 Linux has them (GNU gettext manual, "msgfmt Invocation";
 /// "c-format").
 ///
 /// The text is compiled and refused as by [`compile_dependent_any`]; for the file and the catalogue see

@@ -20,7 +20,8 @@ returns-in-Ok-clause-file c =
     let same : c.in_ok-image.image ≡ statics = one_map c.file-2.result.now statics c.in_ok-image.image
     c.file-2.ensures.lawful c.file-2.ensures.file c.in_ok-image.ensures in
     some_file statics ds c.in-Ok.file.items
-    (λ e. let h : c.is_empty.result ≡ true = c.is_empty.ensures ∙ ap (λ (n : ℕ). n == 0) e in absurd (cc (h, c.if-is_empty.false)))
+    (λ e. let h : c.is_empty.result ≡ true = c.is_empty.ensures ∙ ap (λ (n : ℕ). n == 0) e in
+    absurd (cc (h, c.if-is_empty.false)))
     (subst (λ (m : List Entry). IsDependentFile m ds c.in-Ok.file.items) same c.in-Ok.ensures.file)
 
 pub returns-in-Ok-clause-long : goal.returns-in-Ok-clause-long

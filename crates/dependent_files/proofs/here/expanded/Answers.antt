@@ -11,9 +11,9 @@ name_at-requires-clause-within c =
       arith,
       ap length c.as_slice-bytes.ensures.value,
       c.len-i-end.ensures,
-      lies_within text.splits.items
-          c.splits.i c.index-split.result.now (omega (arith, c.splits-test.true, c.len-i-end.ensures)) c.index-split.ensures
-          text.bytes.items c.splits.from c.splits.invariant.lies,
+      lies_within text.splits.items c.splits.i c.index-split.result.now
+          (omega (arith, c.splits-test.true, c.len-i-end.ensures)) c.index-split.ensures text.bytes.items
+          c.splits.from c.splits.invariant.lies,
     )
 
 pub slice_bounds-extend_from_slice-end : goal.slice_bounds-extend_from_slice-end
@@ -22,9 +22,9 @@ slice_bounds-extend_from_slice-end c =
     omega (
       arith,
       ap length c.as_slice-bytes.ensures.value,
-      lies_within text.splits.items
-          c.splits.i c.index-split.result.now (omega (arith, c.splits-test.true, c.len-i-end.ensures)) c.index-split.ensures
-          text.bytes.items c.splits.from c.splits.invariant.lies,
+      lies_within text.splits.items c.splits.i c.index-split.result.now
+          (omega (arith, c.splits-test.true, c.len-i-end.ensures)) c.index-split.ensures text.bytes.items
+          c.splits.from c.splits.invariant.lies,
     )
 
 pub overflow_add-from : goal.overflow_add-from
@@ -33,9 +33,9 @@ overflow_add-from c =
     omega (
       arith,
       text.bytes.small,
-      lies_within text.splits.items
-          c.splits.i c.index-split.result.now (omega (arith, c.splits-test.true, c.len-i-end.ensures)) c.index-split.ensures
-          text.bytes.items c.splits.from c.splits.invariant.lies,
+      lies_within text.splits.items c.splits.i c.index-split.result.now
+          (omega (arith, c.splits-test.true, c.len-i-end.ensures)) c.index-split.ensures text.bytes.items
+          c.splits.from c.splits.invariant.lies,
     )
 
 pub splits-preserved : goal.splits-preserved
@@ -49,8 +49,9 @@ splits-preserved c =
           c.push_to.new.text.items from _ c.in-Some.value c.splits.invariant.told
           (c.in-Some.ensures ∙ ap value (c.name_at.ensures
           ∙ ap (λ (b : List ℕ). name_at b s) c.as_slice-bytes.ensures.value))
-          (c.in_ok-push_to.ensures ∙ ap (λ (b : List ℕ). b ++ value_text c.in-Some.value) (c.in_ok-extend_from_slice.ensures.items
-          ∙ ap (λ (b : List ℕ). c.splits.out.items ++ take (s.start - from) (drop from b))
+          (c.in_ok-push_to.ensures ∙ ap (λ (b : List ℕ). b ++ value_text c.in-Some.value)
+          (c.in_ok-extend_from_slice.ensures.items ∙ ap (λ (b : List ℕ). c.splits.out.items
+          ++ take (s.start - from) (drop from b))
           c.as_slice-bytes.ensures.value));
       lies = (lies_next text.splits.items c.splits.i s lt c.index-split.ensures text.bytes.items from
           c.splits.invariant.lies).2;

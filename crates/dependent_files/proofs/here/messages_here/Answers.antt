@@ -14,15 +14,16 @@ dependents-preserved c =
     let i = c.dependents.dependent-index in
     let d = c.dependent-item.result in
     let lt : i < length ds = omega (arith, c.dependents-test.true) in
+    let done = strings_of c.dependents.messages.items in
     elim c.match-branch-3.branch [
       | in-Some+in_ok-push w ↦ ap (λ (v : Vec Strings Global). strings_of v.items) w.messages-is
           ∙ ap strings_of w.in_ok-push.ensures.items
           ∙ map-append strings_in c.dependents.messages.items (w.in-Some.message ∷ [])
-          ∙ one_known statics ds i (i + 1) d (strings_of c.dependents.messages.items) (omega arith) lt c.dependent-item.is
+          ∙ one_known statics ds i (i + 1) d done (omega arith) lt c.dependent-item.is
           c.dependents.invariant w.in-Some.message
           (sym (ap (λ (o : Option Strings). option_map strings_in o) w.in-Some.is) ∙ c.in_ok-message.ensures)
       | in_default w ↦ ap (λ (v : Vec Strings Global). strings_of v.items) w.messages-is
-          ∙ one_unknown statics ds i (i + 1) d (strings_of c.dependents.messages.items) (omega arith) lt c.dependent-item.is
+          ∙ one_unknown statics ds i (i + 1) d done (omega arith) lt c.dependent-item.is
           c.dependents.invariant
           (sym (ap (λ (o : Option Strings). option_map strings_in o) w.in_default.is) ∙ c.in_ok-message.ensures)
     ]
