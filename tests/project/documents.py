@@ -89,6 +89,7 @@ def differences(what, found, wanted):
 
 LOADS = ("crates/po_checks/src/fault.rt", "LoadKind")
 RECODED = ("crates/any_charset/src/fault.rt", "TextFault")
+WRITTEN = ("crates/dependent_files/src/fault.rt", "FileFault")
 TEXTS = ("crates/po_text/src/fault.rt", "PoKind")
 FILES = ("crates/mo_file/src/fault.rt", "MoFault")
 DEPENDENT = ("crates/mo_segments/src/fault.rt", "DependentFault")
@@ -170,6 +171,8 @@ def faults_of_the_header():
     text = next(text for text, name in variants(*RECODED) if name == "NoCharacter")
     number = re.search(r" NO_CHARACTER: u32 = (\d+);", code)[1]
     wanted["KOB_PO_NO_CHARACTER"] = (int(number), text.removeprefix("line {0}: "))
+    text = next(text for text, name in variants(*WRITTEN) if name == "NotReadBack")
+    wanted["KOB_PO_NOT_READ_BACK"] = (int(re.search(r" NOT_READ_BACK: u32 = (\d+);", code)[1]), text)
     text = next(text for text, name in variants(*RECODED_FILE) if name == "NoCharacter")
     wanted["KOB_MO_NO_CHARACTER"] = (int(re.search(r"MO_NO_CHARACTER: u32 = (\d+);", code)[1]), text)
     found = {name: int(number) for name, number in re.findall(r"(KOB_[MP]O_\w+) = (\d+)", read(HEADER))}
