@@ -48,9 +48,13 @@ entry_text e part k =
     else (if part == plural_part then or_nothing e.plural
     else (if part == form_part then form_at e k else [])))
 
--- the MO file of what was opened
+-- the MO file of the map of what was opened
+abbrev pub map_file : Opened → List ℕ
+map_file c = option_map_or (λ shared. spelling (arc_value shared)) c.catalogue []
+
+-- the MO file of what was opened: its own, or else that of its map
 abbrev pub file_of : Opened → List ℕ
-file_of c = option_map_or (λ shared. spelling (arc_value shared)) c.catalogue []
+file_of c = option_map_or (λ file. file.items) c.file (map_file c)
 
 -- the MO file of what was opened, or a string of entry i
 abbrev pub text : Opened → ℕ → ℕ → ℕ → List ℕ

@@ -25,6 +25,10 @@ po_faults = 100
 abbrev pub no_character_fault : ℕ
 no_character_fault = 119
 
+-- the MO file that was written of a PO text doesn't read as its messages
+abbrev pub not_itself_fault : ℕ
+not_itself_fault = 120
+
 abbrev pub name_fault : ℕ
 name_fault = 202
 

@@ -2,7 +2,7 @@
 ghost use Rattle.std.specs.Prelude.{◌≡◌, [], length, option_map, slice_get};
 ghost use Rattle.std.specs.Arc.{arc_value};
 ghost use Rattle.c_answers.specs.Answering.{IsClosedAnswer, context_of, map_of, number_of, question};
-ghost use Rattle.c_answers.specs.Listing.{entry_number, entry_text, form_at, number, text};
+ghost use Rattle.c_answers.specs.Listing.{entry_number, entry_text, file_of, form_at, number, text};
 ghost use Rattle.c_answers.specs.Numbers.{gettext};
 
 use crate::numbers::{
@@ -165,15 +165,25 @@ fn entry_text<'k>(entry: &EntryRef<'k>, part: u32, k: u64) -> &'k str
     }
 }
 
+/// The MO file of what was opened: its own if it has one, and otherwise that of the catalogue's map.
+fn file_of(opened: &Opened) -> &[u8]
+    ensures { result.now ≡ file_of opened.now }
+{
+    if let Some(file) = &opened.file {
+        return file.as_slice();
+    }
+    match catalogue_of(opened) {
+        Some(catalogue) => catalogue.file(),
+        None => &[],
+    }
+}
+
 /// A string of what was opened: its MO file (`FILE_BYTES`), or a string of entry `i` (`entry_text`).
 pub fn text<'k>(opened: &'k Opened, part: u32, i: u64, k: u64) -> &'k [u8]
     ensures { result.now ≡ text opened.now part i k }
 {
     if part == FILE_BYTES {
-        return match catalogue_of(opened) {
-            Some(catalogue) => catalogue.file(),
-            None => &[],
-        };
+        return file_of(opened);
     }
     match entry_at(opened, i) {
         Some(entry) => entry_text(&entry, part, k).as_bytes(),

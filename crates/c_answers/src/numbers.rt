@@ -31,6 +31,9 @@ pub const PO_MEMORY: u32 = 18;
 // A byte of a PO text has no character in the charset that the header names.
 pub const NO_CHARACTER: u32 = 119;
 
+// The MO file that was written of a PO text doesn't read as its messages.
+pub const NOT_ITSELF: u32 = 120;
+
 // Faults of sets and stores. `BUSY` isn't in `kobdzila.h`: C's functions return 0 or NULL instead.
 pub const BAD_NAME: u32 = 202;
 

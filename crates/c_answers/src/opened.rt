@@ -11,6 +11,8 @@ use std::sync::Arc;
 #[derive(Drop)]
 pub struct Opened {
     pub catalogue: Option<Arc<Catalogue>>,
+    /// The MO file, where it isn't that of the catalogue's map: that of a PO text with system-dependent messages.
+    pub file: Option<Vec<u8>>,
     /// The number of the fault (`numbers`); `NO_FAULT` if there is a catalogue.
     pub fault: u32,
     /// The fault's line in a PO text; 0 if it has none.
