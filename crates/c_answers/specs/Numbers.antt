@@ -26,8 +26,8 @@ abbrev pub no_character_fault : ℕ
 no_character_fault = 119
 
 -- the MO file that was written of a PO text doesn't read as its messages
-abbrev pub not_itself_fault : ℕ
-not_itself_fault = 120
+abbrev pub not_read_back_fault : ℕ
+not_read_back_fault = 120
 
 abbrev pub name_fault : ℕ
 name_fault = 202

@@ -32,7 +32,7 @@ pub const PO_MEMORY: u32 = 18;
 pub const NO_CHARACTER: u32 = 119;
 
 // The MO file that was written of a PO text doesn't read as its messages.
-pub const NOT_ITSELF: u32 = 120;
+pub const NOT_READ_BACK: u32 = 120;
 
 // Faults of sets and stores. `BUSY` isn't in `kobdzila.h`: C's functions return 0 or NULL instead.
 pub const BAD_NAME: u32 = 202;

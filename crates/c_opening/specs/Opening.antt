@@ -1,8 +1,10 @@
 -- What C holds after opening bytes: their catalogue, or the number of the fault and its line.
-use Rattle.std.specs.Prelude.{◌≡◌, ◌⊎◌, ℕ, ◌+◌, ◌==◌, if◌then◌else◌, nat_lt, Bool, true, false, List, None, MatchOption}
+use Rattle.std.specs.Prelude.{◌≡◌, ◌⊎◌, ℕ, ◌+◌, ◌==◌, if◌then◌else◌, nat_lt, Bool, true, false, List, MatchOption}
+use Rattle.std.specs.Prelude.{Option, None, Some, option_map}
 use Rattle.std.specs.Arc.{arc_value}
 use Rattle.mo_image.specs.Entry.{Entry}
 use Rattle.mo_file.specs.MoReading.{Mo, Refused, rank as mo_number}
+use Rattle.mo_file.specs.declared.fault.MoFault.TheVariants as mo
 use Rattle.mo_segments.specs.declared.fault.DependentFault.{DependentFault}
 use Rattle.mo_segments.specs.declared.fault.DependentFault.TheVariants as dependent
 use Rattle.mo_revisions.specs.declared.fault.AnyMoFault.{AnyMoFault}
@@ -19,11 +21,15 @@ use Rattle.any_charset.specs.declared.fault.TextFault.{TextFault}
 use Rattle.any_charset.specs.declared.fault.TextFault.TheVariants.{Load, NoCharacter}
 use Rattle.po_checks.specs.Refusal.{out_of_memory}
 use Rattle.po_checks.specs.declared.fault.LoadKind.{LoadKind}
-use Rattle.po_checks.specs.declared.fault.LoadKind.TheVariants.{Memory}
+use Rattle.po_checks.specs.declared.fault.LoadKind.TheVariants.{Memory, SystemDependent}
 use Rattle.po_checks.specs.declared.options.Options.{Options}
 use Rattle.c_answers.specs.declared.opened.Opened.{Opened}
 use Rattle.c_answers.specs.Numbers.{no_fault, memory_fault, tables_fault, mo_no_character_fault, po_faults}
-use Rattle.c_answers.specs.Numbers.{no_character_fault}
+use Rattle.c_answers.specs.Numbers.{no_character_fault, not_read_back_fault}
+use Rattle.dependent_files.specs.TextFiles.{HasFileAny, HasNoFileAny}
+use Rattle.dependent_files.specs.declared.compiler.DependentFile.{DependentFile}
+use Rattle.dependent_files.specs.declared.fault.FileFault.{FileFault}
+use Rattle.dependent_files.specs.declared.fault.FileFault.TheVariants.{Text, TooLarge, NotReadBack, Catalogue}
 
 -- the number of a fault of a PO text; out of memory has one number in both formats
 abbrev pub fault_number : LoadKind → ℕ
@@ -63,6 +69,17 @@ abbrev pub line_of : TextFault → ℕ
 line_of (Load fault) = fault.line
 line_of (NoCharacter line) = line
 
+-- the number and the line of why a PO text has no file
+abbrev pub text_file_number : FileFault → ℕ
+text_file_number (Text fault) = text_fault_number fault
+text_file_number TooLarge = mo_number mo.TooLarge
+text_file_number NotReadBack = not_read_back_fault
+text_file_number (Catalogue fault) = mo_number fault
+
+abbrev pub file_line : FileFault → ℕ
+file_line (Text fault) = line_of fault
+file_line _ = 0
+
 -- the counts of what isn't a PO text
 abbrev pub no_stats : Stats
 no_stats = record { translated = 0; fuzzy = 0; untranslated = 0 }
@@ -70,19 +87,25 @@ no_stats = record { translated = 0; fuzzy = 0; untranslated = 0 }
 -- no catalogue, for this reason
 pub record IsRefused (c : Opened) (fault line : ℕ) : Type 0 where
   pub none : c.catalogue ≡ None
+  pub no_file : c.file ≡ None
   pub fault_is : c.fault ≡ fault
   pub line_is : c.line ≡ line
   pub stats_are : c.stats ≡ no_stats
 
--- a catalogue whose map and counts have this property, and no fault
-pub record IsOpenedAs (Is : List Entry → Stats → Type 0) (c : Opened) : Type 0 where
-  pub map : MatchOption c.catalogue ⊥ (λ shared. Is (arc_value shared) c.stats)
+-- the file that isn't that of the map, if there is one
+abbrev pub own_file : Opened → Option (List ℕ)
+own_file c = option_map (λ file. file.items) c.file
+
+-- a catalogue whose map and counts have this property together with its own file, and no fault
+pub record IsOpenedAs (Is : List Entry → Stats → Option (List ℕ) → Type 0) (c : Opened) : Type 0 where
+  pub map : MatchOption c.catalogue ⊥ (λ shared. Is (arc_value shared) c.stats (own_file c))
   pub fault_is : c.fault ≡ no_fault
   pub line_is : c.line ≡ 0
 
--- the catalogue of this map with these counts, or out of memory
-abbrev pub IsOpenedMap : List Entry → Stats → Opened → Type 0
-IsOpenedMap m stats c = IsOpenedAs (λ map counts. (map ≡ m) × (counts ≡ stats)) c ⊎ IsRefused c memory_fault 0
+-- the catalogue of this map with these counts and this file, or out of memory
+abbrev pub IsOpenedMap : List Entry → Stats → Option (List ℕ) → Opened → Type 0
+IsOpenedMap m stats file c = IsOpenedAs (λ map counts own. (map ≡ m) × (counts ≡ stats) × (own ≡ file)) c
+    ⊎ IsRefused c memory_fault 0
 
 -- the bytes are an MO file of this map: if is_strict of revision 0.0 in UTF-8, and otherwise of any revision in any
 -- charset
@@ -103,7 +126,8 @@ RefusesMo bytes false fault = AnyCharsetRefused bytes fault
 
 -- the map of an MO file, or its first fault, or out of memory
 abbrev pub IsOpenedMo : List ℕ → Bool → Opened → Type 0
-IsOpenedMo bytes is_strict c = IsOpenedAs (λ map counts. MeansMo bytes is_strict map × (counts ≡ no_stats)) c
+IsOpenedMo bytes is_strict c =
+    IsOpenedAs (λ map counts own. MeansMo bytes is_strict map × (counts ≡ no_stats) × (own ≡ None)) c
     ⊎ (fault : RecodedFault) × RefusesMo bytes is_strict fault × IsRefused c (file_fault_number fault) 0
 
 -- the text compiles to this: if is_strict as UTF-8, and otherwise in any charset
@@ -121,13 +145,45 @@ abbrev pub RefusesText : List ℕ → Options → Bool → TextFault → Type 0
 RefusesText text options true fault = RefusesStrict text options fault
 RefusesText text options false fault = RefusesAny text options fault
 
--- the text compiles to this map with these counts
-abbrev pub MeansMap : List ℕ → Options → Bool → List Entry → Stats → Type 0
-MeansMap text options is_strict m stats = (compiled : Compiled) × MeansText text options is_strict compiled
-    × (compiled.catalogue ≡ m) × (compiled.stats ≡ stats)
+-- the text compiles to this map with these counts, and its file is that of the map
+pub record MeansMap (text : List ℕ) (options : Options) (is_strict : Bool) (m : List Entry) (stats : Stats)
+    (own : Option (List ℕ)) : Type 0 where
+  pub compiled : Compiled
+  pub means : MeansText text options is_strict compiled
+  pub map_is : compiled.catalogue ≡ m
+  pub stats_are : compiled.stats ≡ stats
+  pub no_file : own ≡ None
 
--- the map that a PO text compiles to, or its first fault, or out of memory
+-- ---- a text with system-dependent messages
+
+abbrev pub IsSystemDependent : TextFault → Type 0
+IsSystemDependent (Load fault) = fault.kind ≡ SystemDependent
+IsSystemDependent (NoCharacter line) = ⊥
+
+-- the text has this map, these counts and this file, where its formats may name macros
+pub record MeansFile (text : List ℕ) (options : Options) (m : List Entry) (stats : Stats) (own : Option (List ℕ))
+    : Type 0 where
+  pub made : DependentFile
+  pub has : HasFileAny text options made
+  pub map_is : made.catalogue ≡ m
+  pub stats_are : made.stats ≡ stats
+  pub file_is : own ≡ Some made.file.items
+
+-- the map, the counts and the file of a text whose formats may name macros, or why it has none, or out of memory
+abbrev pub IsOpenedFile : List ℕ → Options → Opened → Type 0
+IsOpenedFile text options c = IsOpenedAs (MeansFile text options) c
+    ⊎ (fault : FileFault) × HasNoFileAny text options fault
+    × IsRefused c (text_file_number fault) (file_line fault)
+
+-- ---- a text
+
+-- what becomes of a refusal: a text that is refused as system-dependent is opened with its macros, unless is_strict
+abbrev pub IsTold : List ℕ → Options → Bool → TextFault → Opened → Type 0
+IsTold text options true fault c = IsRefused c (text_fault_number fault) (line_of fault)
+IsTold text options false fault c = (¬ IsSystemDependent fault × IsRefused c (text_fault_number fault) (line_of fault))
+    ⊎ (IsSystemDependent fault × IsOpenedFile text options c)
+
+-- the map that a PO text compiles to, or what becomes of its first fault, or out of memory
 abbrev pub IsOpenedPo : List ℕ → Options → Bool → Opened → Type 0
 IsOpenedPo text options is_strict c = IsOpenedAs (MeansMap text options is_strict) c
-    ⊎ (fault : TextFault) × RefusesText text options is_strict fault
-    × IsRefused c (text_fault_number fault) (line_of fault)
+    ⊎ (fault : TextFault) × RefusesText text options is_strict fault × IsTold text options is_strict fault c

@@ -1,23 +1,26 @@
 //! Opening bytes: the catalogue of an MO file or of a PO text, or the number and the line of why it is refused.
-ghost use Rattle.std.specs.Prelude.{◌≡◌, ◌⊎◌, IfOk, IfErr, nat_lt};
+ghost use Rattle.std.specs.Prelude.{◌≡◌, ◌⊎◌, ◌↔◌, IfOk, IfErr, IsTrue, None, nat_lt, option_map};
 ghost use Rattle.std.specs.Arc.{arc_value};
 ghost use Rattle.catalogue.specs.Meaning.{Means, Refuses};
 ghost use Rattle.po_checks.specs.Refusal.{out_of_memory};
 ghost use Rattle.c_opening.specs.Opening.{IsOpenedMo, IsOpenedPo, IsOpenedMap, IsRefused, fault_number, no_stats};
 ghost use Rattle.c_opening.specs.Opening.{MeansText, RefusesText, line_of, options_of, text_fault_number};
 ghost use Rattle.c_opening.specs.Opening.{MeansMo, RefusesMo, dependent_number, file_fault_number, mo_fault_number};
+ghost use Rattle.c_opening.specs.Opening.{IsOpenedFile, IsSystemDependent, IsTold, file_line, text_file_number};
+ghost use Rattle.dependent_files.specs.TextFiles.{HasFileAny, HasNoFileAny};
 
 use any_charset::{TextFault, compile_recoded, is_for_charset};
 use c_answers::Opened;
 use c_answers::numbers::{
     DEPENDENT_DESCRIPTOR, DEPENDENT_OPEN_TEXT, DEPENDENT_SEGMENT, DEPENDENT_SEGMENT_NUMBER,
     DEPENDENT_SWOLLEN, DEPENDENT_TABLES, DEPENDENT_TEXT, MEMORY, MO_NO_CHARACTER, NO_CHARACTER,
-    NO_FAULT, PO_FAULTS, PO_MEMORY,
+    NO_FAULT, NOT_READ_BACK, PO_FAULTS, PO_MEMORY,
 };
 use catalogue::{Catalogue, Compiled, LoadFault, LoadKind, Options, Stats, compile_owned};
+use dependent_files::{DependentFile, FileFault, compile_file};
 use live_loads::{mo_number, po_number};
 use mo_charsets::{RecodedFault, read_any_charset};
-use mo_file::read_mo;
+use mo_file::{MoFault, read_mo};
 use mo_revisions::AnyMoFault;
 use mo_segments::DependentFault;
 use std::alloc::{AllocError, Global};
@@ -46,6 +49,7 @@ fn refused(fault: u32, line: u32) -> Opened
 {
     Opened {
         catalogue: None,
+        file: None,
         fault,
         line,
         stats: NO_STATS,
@@ -66,13 +70,20 @@ fn shared(
     Ok(Arc::new(alloc, catalogue)?)
 }
 
-/// A catalogue as C holds it, or out of memory.
-fn kept(alloc: Global, catalogue: Catalogue, stats: Stats, without_index: bool) -> Opened
-    ensures { IsOpenedMap catalogue stats result }
+/// A catalogue as C holds it, with its file if that isn't the file of its map; or out of memory.
+fn kept(
+    alloc: Global,
+    catalogue: Catalogue,
+    stats: Stats,
+    file: Option<Vec<u8>>,
+    without_index: bool,
+) -> Opened
+    ensures { IsOpenedMap catalogue stats (option_map (λ f. f.items) file) result }
 {
     match shared(alloc, catalogue, without_index) {
         Ok(catalogue) => Opened {
             catalogue: Some(catalogue),
+            file,
             fault: NO_FAULT,
             line: 0,
             stats,
@@ -137,7 +148,7 @@ pub fn open_mo(alloc: Global, bytes: &[u8], strict: u32, without_index: u32) -> 
     ensures { IsOpenedMo bytes.now (nat_lt 0 strict) result }
 {
     match read_file(alloc, bytes, strict > 0) {
-        Ok(catalogue) => kept(alloc, catalogue, NO_STATS, without_index > 0),
+        Ok(catalogue) => kept(alloc, catalogue, NO_STATS, None, without_index > 0),
         Err(fault) => refused(file_fault_number(fault), 0),
     }
 }
@@ -197,6 +208,71 @@ fn refused_text(fault: TextFault) -> Opened
     refused(number, line)
 }
 
+/// Compiles a copy of a PO text whose formats may name macros, in any charset.
+fn compile_macros(alloc: Global, bytes: &[u8], options: Options) -> Result<DependentFile, FileFault>
+    ensures ok { IfOk result (HasFileAny bytes.now options) }
+    ensures err { IfErr result (HasNoFileAny bytes.now options) }
+{
+    let copy = copied(alloc, bytes)?;
+    compile_file(alloc, copy.as_slice(), options)
+}
+
+/// No catalogue, for the reason why a PO text has no file.
+fn refused_file(fault: FileFault) -> Opened
+    ensures { IsRefused result (text_file_number fault) (file_line fault) }
+{
+    match fault {
+        FileFault::Text(fault) => refused_text(fault),
+        FileFault::TooLarge => refused(mo_number(MoFault::TooLarge), 0),
+        FileFault::NotReadBack => refused(NOT_READ_BACK, 0),
+        FileFault::Catalogue(fault) => refused(mo_number(fault), 0),
+    }
+}
+
+/// The catalogue of a PO text whose formats may name macros, and its file, or why it has none.
+fn open_macros(alloc: Global, bytes: &[u8], options: Options, without_index: bool) -> Opened
+    ensures { IsOpenedFile bytes.now options result }
+{
+    match compile_macros(alloc, bytes, options) {
+        Ok(made) => kept(
+            alloc,
+            made.catalogue,
+            made.stats,
+            Some(made.file),
+            without_index,
+        ),
+        Err(fault) => refused_file(fault),
+    }
+}
+
+/// Whether a text is refused as system-dependent.
+fn is_system_dependent(fault: TextFault) -> bool
+    ensures { IsTrue result ↔ IsSystemDependent fault }
+{
+    match fault {
+        TextFault::Load(fault) => matches!(fault.kind, LoadKind::SystemDependent),
+        TextFault::NoCharacter(_) => false,
+    }
+}
+
+/// What is opened of a text that `compile_text` has refused: unless `is_strict`, a system-dependent one is opened with
+/// its macros.
+fn open_refused(
+    alloc: Global,
+    bytes: &[u8],
+    options: Options,
+    is_strict: bool,
+    without_index: bool,
+    fault: TextFault,
+) -> Opened
+    ensures { IsTold bytes.now options is_strict fault result }
+{
+    if !is_strict && is_system_dependent(fault) {
+        return open_macros(alloc, bytes, options, without_index);
+    }
+    refused_text(fault)
+}
+
 /// The options that two numbers give: each is on if its number isn't 0.
 pub fn options_of(checked: u32, use_fuzzy: u32) -> Options
     ensures { result ≡ options_of checked use_fuzzy }
@@ -208,7 +284,8 @@ pub fn options_of(checked: u32, use_fuzzy: u32) -> Options
 }
 
 /// The catalogue of a PO text, or the first reason why it is refused. An option is on if its number isn't 0; with
-/// `without_index` the catalogue gets no index, and answers as with one.
+/// `without_index` the catalogue gets no index, and answers as with one. Unless `strict` is on, a text whose formats
+/// name macros is opened, too: its messages are as x86-64 Linux has them, and its MO file is of revision 0.1 or 1.1.
 pub fn open_po(
     alloc: Global,
     bytes: &[u8],
@@ -219,8 +296,15 @@ pub fn open_po(
 ) -> Opened
     ensures { IsOpenedPo bytes.now (options_of checked use_fuzzy) (nat_lt 0 strict) result }
 {
-    match compile_text(alloc, bytes, options_of(checked, use_fuzzy), strict > 0) {
-        Ok(compiled) => kept(alloc, compiled.catalogue, compiled.stats, without_index > 0),
-        Err(fault) => refused_text(fault),
+    let options = options_of(checked, use_fuzzy);
+    match compile_text(alloc, bytes, options, strict > 0) {
+        Ok(compiled) => kept(
+            alloc,
+            compiled.catalogue,
+            compiled.stats,
+            None,
+            without_index > 0,
+        ),
+        Err(fault) => open_refused(alloc, bytes, options, strict > 0, without_index > 0, fault),
     }
 }

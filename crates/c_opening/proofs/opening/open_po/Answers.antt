@@ -6,4 +6,4 @@ use Rattle.c_opening.proofs.opening.open_po.Goals as goal
 
 pub returns-in-Ok : goal.returns-in-Ok
 returns-in-Ok c = kept_po c.args.bytes.now (options_of c.args.checked c.args.use_fuzzy) (nat_lt 0 c.args.strict)
-    c.in-Ok.compiled c.kept.result (rw (sym c.options_of.ensures) c.in-Ok.ensures.ok) c.kept.ensures
+    c.in-Ok.compiled c.kept.result (rw (sym c.options_of-options.ensures) c.in-Ok.ensures.ok) c.kept.ensures
