@@ -27,7 +27,7 @@ no_map statics ds NotReadBack h = absurd h
 pub unwritten : (statics : List Strings) (ds : List Dependent) (map : List Entry) (fault : FileFault)
     → IsCatalogueOf statics map → IsWritingFault map ds fault → HasNoFile statics ds fault
 unwritten statics ds map (Text fault) is h = h
-unwritten statics ds map TooLarge is h = record { map = map; is_map = is; too_large = h }
+unwritten statics ds map TooLarge is h = inl (record { map = map; is_map = is; too_large = h })
 unwritten statics ds map (Catalogue fault) is h = absurd h
 unwritten statics ds map NotReadBack is h = absurd h
 
@@ -49,7 +49,7 @@ pub misread : (statics messages : List Strings) (ds : List Dependent) (bytes : L
 misread statics messages ds bytes (Text fault) e written h = h
 misread statics messages ds bytes NotReadBack e written h =
     record { bytes = bytes; written = written; otherwise = rw (sym e) h }
-misread statics messages ds bytes TooLarge e written h = absurd h
+misread statics messages ds bytes TooLarge e written h = inr (record { bytes = bytes; written = written; swells = h })
 misread statics messages ds bytes (Catalogue fault) e written h = absurd h
 
 pub no_catalogue : (statics messages : List Strings) (ds : List Dependent) (fault : FileFault)

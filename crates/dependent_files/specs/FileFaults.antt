@@ -7,7 +7,7 @@ use Rattle.mo_segments.specs.MessageStrings.{Strings}
 use Rattle.mo_dependent.specs.Layout.{IsWriteFault}
 use Rattle.mo_dependent.specs.declared.split.Dependent.{Dependent}
 use Rattle.mo_dependent.specs.declared.fault.WriteFault.TheVariants as write
-use Rattle.dependent_files.specs.MessagesFile.{LacksCatalogue, ReadsOtherwise}
+use Rattle.dependent_files.specs.MessagesFile.{LacksCatalogue, ReadsOtherwise, SwellsInReading}
 use Rattle.dependent_files.specs.declared.fault.FileFault.{FileFault}
 use Rattle.dependent_files.specs.declared.fault.FileFault.TheVariants.{Text, TooLarge, NotReadBack, Catalogue}
 
@@ -23,8 +23,9 @@ IsWritingFault m dependents (Text fault) = fault ≡ Load out_of_memory
 IsWritingFault m dependents TooLarge = IsWriteFault m dependents write.TooLarge
 IsWritingFault m dependents _ = ⊥
 
--- the file doesn't read as these messages, or out of memory
+-- the file is too large to be read, or doesn't read as these messages, or out of memory
 abbrev pub IsReadingFault : List ℕ → List Strings → FileFault → Type 0
 IsReadingFault bytes messages (Text fault) = fault ≡ Load out_of_memory
+IsReadingFault bytes messages TooLarge = SwellsInReading bytes
 IsReadingFault bytes messages NotReadBack = ReadsOtherwise bytes messages
-IsReadingFault bytes messages _ = ⊥
+IsReadingFault bytes messages (Catalogue fault) = ⊥

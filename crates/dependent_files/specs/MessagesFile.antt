@@ -46,9 +46,14 @@ pub record HasFile (statics : List Strings) (dependents : List Dependent) (bytes
 abbrev pub IsOutOfMemory : AnyMoFault → Type 0
 IsOutOfMemory fault = (fault ≡ OfMo mo.Memory) ⊎ (fault ≡ OfPart part.Memory)
 
--- the file can't be read, or reads as other messages
+-- the file isn't read, since its system-dependent strings take more than a reader has room for
+abbrev pub SwellsInReading : List ℕ → Type 0
+SwellsInReading bytes = IsMessagesFault (file_of bytes) (OfPart part.Swollen)
+
+-- the file can't be read for another reason, or reads as other messages
 abbrev pub ReadsOtherwise : List ℕ → List Strings → Type 0
-ReadsOtherwise bytes messages = ((fault : AnyMoFault) × ¬ IsOutOfMemory fault × IsMessagesFault (file_of bytes) fault)
+ReadsOtherwise bytes messages = ((fault : AnyMoFault) × ¬ IsOutOfMemory fault × (fault ≢ OfPart part.Swollen)
+    × IsMessagesFault (file_of bytes) fault)
     ⊎ ((others : List Strings) × (others ≢ messages) × HasMessages (file_of bytes) others)
 
 -- the messages have no catalogue, and that isn't for want of memory
@@ -56,10 +61,16 @@ abbrev pub LacksCatalogue : List Strings → MoFault → Type 0
 LacksCatalogue messages fault = (fault ≢ mo.Memory) × HasNoCatalogue messages fault
 
 -- the static messages have a catalogue, and with it the file would be too large
-pub record IsTooLarge (statics : List Strings) (dependents : List Dependent) : Type 0 where
+pub record IsTooLargeToWrite (statics : List Strings) (dependents : List Dependent) : Type 0 where
   pub map : List Entry
   pub is_map : IsCatalogueOf statics map
   pub too_large : IsWriteFault map dependents write.TooLarge
+
+-- the file that was written is too large to be read
+pub record IsTooLargeToRead (statics : List Strings) (dependents : List Dependent) : Type 0 where
+  pub bytes : List ℕ
+  pub written : IsWritten statics dependents bytes
+  pub swells : SwellsInReading bytes
 
 -- the file that was written doesn't read as the messages that this machine has
 pub record IsNotReadBack (statics : List Strings) (dependents : List Dependent) : Type 0 where
@@ -70,7 +81,7 @@ pub record IsNotReadBack (statics : List Strings) (dependents : List Dependent) 
 -- why the messages have no such file, or out of memory
 abbrev pub HasNoFile : List Strings → List Dependent → FileFault → Type 0
 HasNoFile statics dependents (Text fault) = fault ≡ Load out_of_memory
-HasNoFile statics dependents TooLarge = IsTooLarge statics dependents
+HasNoFile statics dependents TooLarge = IsTooLargeToWrite statics dependents ⊎ IsTooLargeToRead statics dependents
 HasNoFile statics dependents NotReadBack = IsNotReadBack statics dependents
 HasNoFile statics dependents (Catalogue fault) =
     LacksCatalogue statics fault ⊎ LacksCatalogue (messages_here statics dependents) fault

@@ -16,7 +16,8 @@ pub enum FileFault {
     /// The text is refused.
     #[error("{0}")]
     Text(TextFault),
-    /// The file would have more than 268,435,456 bytes.
+    /// The file would have more than 268,435,456 bytes, or its system-dependent strings take more than that when they
+    /// are read.
     #[error("file too large")]
     TooLarge,
     /// The file that was written doesn't read as the messages. This was never seen, and would be a defect of this

@@ -5,6 +5,8 @@ ghost use Rattle.mo_image.specs.MoFile.{header_len, most_file};
 ghost use Rattle.mo_file.specs.MoReading.{file_of};
 ghost use Rattle.mo_segments.specs.MessageStrings.{strings_of};
 ghost use Rattle.mo_dependent.specs.Splits.{IsSplit};
+ghost use Rattle.mo_segments.specs.declared.fault.DependentFault.TheVariants.{Swollen};
+ghost use Rattle.mo_revisions.specs.declared.fault.AnyMoFault.TheVariants.{Dependent as OfPart};
 ghost use Rattle.mo_revisions.specs.Revisions.{HasMessages};
 ghost use Rattle.mo_revisions.specs.AnyReading.{IsCatalogueOf};
 ghost use Rattle.dependent_files.specs.MessagesFile.{HasFile, HasNoFile, IsFile, IsOutOfMemory, IsWritten};
@@ -87,6 +89,13 @@ fn is_out_of_memory(fault: AnyMoFault) -> bool
     )
 }
 
+/// Whether a file isn't read because its system-dependent strings take too much room.
+fn is_swollen(fault: AnyMoFault) -> bool
+    ensures { IsTrue result ↔ (fault ≡ OfPart Swollen) }
+{
+    matches!(fault, AnyMoFault::Dependent(DependentFault::Swollen))
+}
+
 /// Checks that a file reads as these messages.
 fn check_reading(alloc: Global, file: &[u8], messages: &[Strings]) -> Result<(), FileFault>
     requires short { length file.now ≤ most_file }
@@ -97,6 +106,7 @@ fn check_reading(alloc: Global, file: &[u8], messages: &[Strings]) -> Result<(),
     match read_messages(alloc, file) {
         Ok(read) if are_same(read.as_slice(), messages) => Ok(()),
         Err(fault) if is_out_of_memory(fault) => Err(FileFault::from(AllocError)),
+        Err(fault) if is_swollen(fault) => Err(FileFault::TooLarge),
         _ => Err(FileFault::NotReadBack),
     }
 }
