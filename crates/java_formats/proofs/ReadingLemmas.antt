@@ -191,7 +191,8 @@ one_list text asked others (steps, leads, fits, is) (all, whole, fit, also) =
 pub fault_is : (text bytes : List ℕ) (sort : Sort) (found before : Found) (fault : FormatFault)
     → HasReadAll text found → waiting found.pending.items ≡ begin sort bytes before
     → Blocks (begin sort bytes before) fault → HasFault text fault
-fault_is text bytes sort found before Invalid so_far waits none = no_pattern text bytes sort found before so_far waits none
+fault_is text bytes sort found before Invalid so_far waits none =
+    no_pattern text bytes sort found before so_far waits none
 fault_is text bytes sort found before Memory so_far waits none = tt
 
 pub first_fault : (text : List ℕ) (found : Found) (fault : FormatFault) → found.pending.items ≡ []

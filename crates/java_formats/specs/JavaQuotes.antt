@@ -1,5 +1,5 @@
--- What a `'` quotes, and how far a part of a pattern goes (java.text.MessageFormat, "Patterns and Their Interpretation";
--- java.text.ChoiceFormat, "Patterns").
+-- What a `'` quotes, and how far a part of a pattern goes (java.text.MessageFormat, "Patterns and Their
+-- Interpretation"; java.text.ChoiceFormat, "Patterns").
 use Rattle.std.specs.Prelude.{ℕ, ◌+◌, ◌-◌, Bool, true, false, not, ◌&&◌, ◌||◌, ◌==◌, nat_eq, if◌then◌else◌, List}
 use Rattle.std.specs.Prelude.{[], ◌∷◌, codes}
 use Rattle.std.specs.List.{list_any, starts_with}
