@@ -139,6 +139,14 @@ static bool refuse_formats(const struct run *run, struct catalogue *it, struct t
     return true;
 }
 
+/* Compile with GNU msgfmt a text whose MO file has a macro left. False if there is none, or if GNU msgfmt refuses it. */
+static bool compiles_macros_by_gnu(const struct run *run, struct catalogue *it, kob_text file) {
+    if (run->options.without_gnu || stopped_by || !names_macro(file))
+        return false;
+    hand_to_gnu(run, it, false);
+    return it->outcome == IS_COMPILED || it->outcome == IS_UNWRITTEN;
+}
+
 static void compile_text(const struct run *run, struct catalogue *it, struct text_bytes text) {
     unsigned how = (run->options.checks ? KOB_CHECKED : 0) | (run->options.keeps_fuzzy ? KOB_USE_FUZZY : 0)
                    | KOB_WITHOUT_INDEX; /* (one message is looked up, the header) */
@@ -152,10 +160,14 @@ static void compile_text(const struct run *run, struct catalogue *it, struct tex
         kob_release(made);
         return;
     }
+    kob_text bytes = kob_mo_file(made);
+    if (compiles_macros_by_gnu(run, it, bytes)) {
+        kob_release(made);
+        return;
+    }
     it->counts = statistics_of(made);
     if (run->options.checks)
         look_for_fields(run, it, made, text);
-    kob_text bytes = kob_mo_file(made);
     write_mo(run, it, bytes.at, bytes.len);
     kob_release(made);
 }

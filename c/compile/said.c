@@ -1,7 +1,6 @@
 /* What msgfmt says of a catalogue, for the programs that compile one by libkobdzila. */
 #include "said.h"
 
-#include <stdbool.h>
 #include <stdio.h>
 #include <string.h>
 
@@ -32,6 +31,8 @@ unsigned missing_fields(const kob_catalogue *catalogue) {
         missing |= has_field(header.at, fields[place]) ? 0 : 1u << place;
     return missing;
 }
+
+bool names_macro(kob_text file) { return memmem(file.at, file.len, "<PRI", 4); }
 
 /* Append `, 2 fuzzy translations` and the like, if the count isn't 0. */
 static char *append(char *to, size_t count, const char *one, const char *many) {

@@ -300,7 +300,8 @@ static struct answer run_compiler(struct run *run, const char *output, int stand
     if (!run->has_macros)
         return run_ours(run, output, standard_output);
     bool checked = request->checks_format || request->checks_header;
-    struct macro_text text = {utf8_of(run), run->input_name, checked, request->keeps_fuzzy, run->header_line};
+    struct macro_text text = {utf8_of(run), run->input_name, checked, request->keeps_fuzzy, run->header_line,
+                              has_gnu(run)};
     return compile_macros(&text, output, standard_output);
 }
 

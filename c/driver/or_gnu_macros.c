@@ -57,6 +57,11 @@ struct answer compile_macros(const struct macro_text *text, const char *output, 
     struct answer answer = {0};
     kob_refusal why;
     kob_catalogue *made = open_text(text, &why);
+    if (made && text->has_gnu && names_macro(kob_mo_file(made))) {
+        kob_release(made);
+        made = NULL;
+        why = (kob_refusal){KOB_PO_SYSTEM_DEPENDENT, 0};
+    }
     if (!made) {
         answer.ending.status = 1;
         answer.said = text_of("%s:%u: %s\n", text->name, why.line, kob_fault_text(why.fault));

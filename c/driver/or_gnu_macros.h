@@ -10,6 +10,7 @@ struct macro_text {
     const char *name;               /* what stands before a line that is said of it */
     bool checked, keeps_fuzzy;      /* as in msgfmt */
     unsigned long long header_line; /* that of the header's first keyword, or 0 */
+    bool has_gnu;                   /* GNU msgfmt compiles what has a macro left in the end */
 };
 
 /* Compile a text and write its MO file to `output`, or to the descriptor `standard_output` if that is `-` and the

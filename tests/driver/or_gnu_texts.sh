@@ -90,6 +90,8 @@ answers 'a macro of another type' ours "$c"'msgid "%%<PRId64>"\nmsgstr "%%<PRIu6
 answers 'a macro for none' "$different" "$c"'msgid "%%ld"\nmsgstr "%%<PRId64>"\n' -c
 answers 'a macro that is none' "$different" "$c"'msgid "%%<PRId64>"\nmsgstr "%%<PRId65>"\n' -c
 answers 'no macro but its letters' ours "$c"'msgid "<PRId64>"\nmsgstr "a <PRId64>"\n' -c
+answers 'a macro and an undefined size' 'GNU\t0\tsystem-dependent format' "$c"'msgid "%%Zu %%<PRId64>"\nmsgstr "%%Zu %%<PRId64>"\n'
+answers 'a macro without its flag' ours "$ab"'msgid "%%<PRId64>"\nmsgstr "%%<PRId64>"\n#, c-format\nmsgid "%%d"\nmsgstr "%%Id"\n'
 answers 'the flag I' ours "$c"'msgid "%%d"\nmsgstr "%%Id"\n' -c
 answers 'the flag I' ours "$c"'msgid "%%d"\nmsgstr "%%Id"\n'
 answers 'the flag I and a macro' ours "$c"'msgid "%%<PRId64> %%d"\nmsgstr "%%I<PRId64> %%-I5d"\n' -c
