@@ -133,8 +133,8 @@ kob_catalogue *kob_open_mo(const void *bytes, size_t len, kob_refusal *why);
  * must be at the front of the file. The file may have 67,108,864 bytes before and after it is decoded.
  *
  * A message that is flagged `c-format` is system-dependent if its msgid or a translation has a macro of <inttypes.h>,
- * such as `%<PRIu64>`, or a translation has the flag `I`. Look-ups ask for such a message, and get it, with the values
- * that kob_open_mo says. kob_mo_file is then the file of revision 0.1, or 1.1 with the flag, that GNU msgfmt writes.
+ * such as `%<PRIu64>`. Look-ups ask for such a message, and get it, with the values that kob_open_mo says. kob_mo_file
+ * is then the file that GNU msgfmt writes: of revision 0.1, or of 1.1 if a translation has the flag `I`.
  *
  * References, failures and the bytes are treated as by kob_open_mo. */
 kob_catalogue *kob_open_po(const void *bytes, size_t len, unsigned options, kob_refusal *why);

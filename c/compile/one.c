@@ -139,9 +139,12 @@ static bool refuse_formats(const struct run *run, struct catalogue *it, struct t
     return true;
 }
 
-/* Compile with GNU msgfmt a text whose MO file has a macro left. False if there is none, or if GNU msgfmt refuses it. */
-static bool compiles_macros_by_gnu(const struct run *run, struct catalogue *it, kob_text file) {
-    if (run->options.without_gnu || stopped_by || !names_macro(file))
+/* Compile with GNU msgfmt a text of which a C format has a macro left. False if none has, or if GNU msgfmt refuses it. */
+static bool compiles_macros_by_gnu(const struct run *run, struct catalogue *it, const kob_catalogue *made,
+                                   struct text_bytes text) {
+    enum { MINOR_REVISION = 4 }; /* the place of its lowest byte in an MO file */
+    bool is_dependent = kob_mo_file(made).at[MINOR_REVISION];
+    if (run->options.without_gnu || stopped_by || !is_dependent || left_macros(made) <= scan(run, text).plain_macros)
         return false;
     hand_to_gnu(run, it, false);
     return it->outcome == IS_COMPILED || it->outcome == IS_UNWRITTEN;
@@ -160,14 +163,14 @@ static void compile_text(const struct run *run, struct catalogue *it, struct tex
         kob_release(made);
         return;
     }
-    kob_text bytes = kob_mo_file(made);
-    if (compiles_macros_by_gnu(run, it, bytes)) {
+    if (compiles_macros_by_gnu(run, it, made, text)) {
         kob_release(made);
         return;
     }
     it->counts = statistics_of(made);
     if (run->options.checks)
         look_for_fields(run, it, made, text);
+    kob_text bytes = kob_mo_file(made);
     write_mo(run, it, bytes.at, bytes.len);
     kob_release(made);
 }

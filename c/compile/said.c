@@ -1,10 +1,14 @@
 /* What msgfmt says of a catalogue, for the programs that compile one by libkobdzila. */
 #include "said.h"
+#include "or_gnu_text.h"
 
+#include <stdbool.h>
 #include <stdio.h>
 #include <string.h>
 
 #pragma weak kob_find
+#pragma weak kob_entry_at
+#pragma weak kob_form_at
 #pragma weak kob_statistics
 
 kob_counts statistics_of(const kob_catalogue *catalogue) {
@@ -32,7 +36,19 @@ unsigned missing_fields(const kob_catalogue *catalogue) {
     return missing;
 }
 
-bool names_macro(kob_text file) { return memmem(file.at, file.len, "<PRI", 4); }
+static bool has_macro(kob_text text) { return names_macro((struct part){text.at, text.at + text.len}); }
+
+size_t left_macros(const kob_catalogue *catalogue) {
+    size_t count = 0;
+    kob_entry entry;
+    for (size_t place = 0; kob_entry_at(catalogue, place, &entry); place++) {
+        bool is_left = has_macro(entry.msgid);
+        for (size_t form = 0; !is_left && form < entry.forms; form++)
+            is_left = has_macro(kob_form_at(catalogue, place, form));
+        count += is_left;
+    }
+    return count;
+}
 
 /* Append `, 2 fuzzy translations` and the like, if the count isn't 0. */
 static char *append(char *to, size_t count, const char *one, const char *many) {

@@ -39,6 +39,7 @@ struct run {
     struct text utf8; /* the text in UTF-8, if it was converted */
     bool has_macros;  /* libkobdzila compiles it */
     unsigned long long header_line;
+    size_t plain_macros;
     int recoded;      /* a descriptor for that, or -1 */
     struct streams streams;
     struct timespec start;
@@ -301,7 +302,7 @@ static struct answer run_compiler(struct run *run, const char *output, int stand
         return run_ours(run, output, standard_output);
     bool checked = request->checks_format || request->checks_header;
     struct macro_text text = {utf8_of(run), run->input_name, checked, request->keeps_fuzzy, run->header_line,
-                              has_gnu(run)};
+                              run->plain_macros, has_gnu(run)};
     return compile_macros(&text, output, standard_output);
 }
 
@@ -595,6 +596,7 @@ _Noreturn static void drive(struct run *run) {
         check_formats(run, needs.format);
     run->has_macros = needs.has_macros && has_library();
     run->header_line = needs.header_line;
+    run->plain_macros = needs.plain_macros;
     if (!run->has_macros) { /* (msgfmt reads the file for itself) */
         free(run->text.bytes);
         free(run->utf8.bytes);

@@ -70,6 +70,7 @@ struct needs {
     unsigned long long line; /* the number of the first `#=` line that has a flag, or 0 */
     unsigned long long header_line; /* that of the header's first keyword, or 0 */
     bool has_macros;         /* an entry may have system-dependent strings, which libkobdzila compiles */
+    size_t plain_macros;     /* how many entries have a macro without being flagged c-format */
     const char *format;      /* the flag of formats that are to be checked by libkobdzila, or NULL */
 };
 

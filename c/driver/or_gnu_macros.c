@@ -57,7 +57,7 @@ struct answer compile_macros(const struct macro_text *text, const char *output, 
     struct answer answer = {0};
     kob_refusal why;
     kob_catalogue *made = open_text(text, &why);
-    if (made && text->has_gnu && names_macro(kob_mo_file(made))) {
+    if (made && text->has_gnu && left_macros(made) > text->plain_macros) {
         kob_release(made);
         made = NULL;
         why = (kob_refusal){KOB_PO_SYSTEM_DEPENDENT, 0};

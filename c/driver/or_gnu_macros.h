@@ -10,7 +10,8 @@ struct macro_text {
     const char *name;               /* what stands before a line that is said of it */
     bool checked, keeps_fuzzy;      /* as in msgfmt */
     unsigned long long header_line; /* that of the header's first keyword, or 0 */
-    bool has_gnu;                   /* GNU msgfmt compiles what has a macro left in the end */
+    size_t plain_macros;            /* how many messages have one without being flagged c-format */
+    bool has_gnu;                   /* GNU msgfmt compiles a text of which another message has a macro in the end */
 };
 
 /* Compile a text and write its MO file to `output`, or to the descriptor `standard_output` if that is `-` and the

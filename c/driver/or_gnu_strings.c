@@ -97,3 +97,13 @@ bool ends_with_newline(struct part string) {
     }
     return byte == '\n';
 }
+
+bool names_macro(struct part text) {
+    for (const char *at = text.at; at && at < text.end && (at = memchr(at, '%', (size_t)(text.end - at)));) {
+        for (at++; at < text.end && *at && strchr("0123456789$-+ #'I*.", *at);)
+            at++;
+        if (begins((struct part){at, text.end}, "<PRI"))
+            return true;
+    }
+    return false;
+}

@@ -89,16 +89,6 @@ static void look_at_header(struct scan *scan, const struct entry *entry, struct 
 
 /* ---- other entries */
 
-/* Whether a directive of a form may have the flag I, which makes the string system-dependent. */
-static bool has_flag_i(const struct entry *entry) {
-    const char *end = entry->whole.end;
-    for (const char *at = entry->form.at; at < end && (at = memchr(at, '%', (size_t)(end - at)));)
-        for (at++; at < end && *at && strchr("0123456789$-+ #'I", *at); at++)
-            if (*at == 'I')
-                return true;
-    return false;
-}
-
 /* Take in an entry that is kept. */
 static void look_at_kept(struct scan *scan, const struct entry *entry) {
     const struct flags *flags = &entry->flags;
@@ -112,8 +102,10 @@ static void look_at_kept(struct scan *scan, const struct entry *entry) {
         needs_gnu_for(scan, flags->checked);
     if (checks && !scan->needs.format)
         scan->needs.format = flags->checked;
-    bool may_depend = (scan->has_macros && find(entry->whole, "<PRI", 0)) || has_flag_i(entry);
+    bool may_depend = scan->has_macros && find(entry->whole, "<PRI", 0);
     bool has_macro = flags->c_format && may_depend;
+    struct part forms = {entry->form.at, entry->whole.end};
+    scan->needs.plain_macros += may_depend && !has_macro && (names_macro(entry->id) || names_macro(forms));
     scan->needs.has_macros |= has_macro;
     scan->needs.helps |= has_macro && !has_library();
     if (has_macro && !has_library())

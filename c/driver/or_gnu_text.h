@@ -57,6 +57,8 @@ int next_byte(struct spelled *strings);
 /* Go behind the first place where the strings have a word, which doesn't begin again inside of itself. False if there is
  * none. */
 bool skip_behind(struct spelled *strings, const char *word);
+/* Whether a text has a directive with a macro, such as `%08<PRIx64>`, as far as that isn't cut into several strings. */
+bool names_macro(struct part text);
 /* Whether the string between two quotes begins or ends with a newline. */
 bool begins_with_newline(struct part string);
 bool ends_with_newline(struct part string);

@@ -77,7 +77,7 @@ macro='msgid "%%<PRId64>"\nmsgstr "%%<PRId64>"\n' c='#, c-format\n' different='G
 answers 'a macro' ours "$c$macro"
 answers 'a macro' ours "$c$macro" -c
 answers 'a macro' ours "$ab$c$macro" --statistics
-answers 'a macro, possibly' ours '#, possible-c-format\n'"$macro"
+answers 'a macro, possibly' "$other" '#, possible-c-format\n'"$macro"
 answers 'a macro, fuzzy' ours "$ab"'#, c-format, fuzzy\n'"$macro"
 answers 'a macro, fuzzy' ours "$ab"'#, c-format, fuzzy\n'"$macro" -f
 answers 'a macro beside other messages' ours "$ab$c$macro$c"'msgid "%%d"\nmsgstr "x %%d"\n' -c
@@ -91,9 +91,7 @@ answers 'a macro for none' "$different" "$c"'msgid "%%ld"\nmsgstr "%%<PRId64>"\n
 answers 'a macro that is none' "$different" "$c"'msgid "%%<PRId64>"\nmsgstr "%%<PRId65>"\n' -c
 answers 'no macro but its letters' ours "$c"'msgid "<PRId64>"\nmsgstr "a <PRId64>"\n' -c
 answers 'a macro and an undefined size' 'GNU\t0\tsystem-dependent format' "$c"'msgid "%%Zu %%<PRId64>"\nmsgstr "%%Zu %%<PRId64>"\n'
-answers 'a macro without its flag' ours "$ab"'msgid "%%<PRId64>"\nmsgstr "%%<PRId64>"\n#, c-format\nmsgid "%%d"\nmsgstr "%%Id"\n'
-answers 'the flag I' ours "$c"'msgid "%%d"\nmsgstr "%%Id"\n' -c
-answers 'the flag I' ours "$c"'msgid "%%d"\nmsgstr "%%Id"\n'
+answers 'a macro without the flag, and one with it' ours "$macro$c"'msgid "%%<PRIu8>"\nmsgstr "%%<PRIu8>"\n'
 answers 'the flag I and a macro' ours "$c"'msgid "%%<PRId64> %%d"\nmsgstr "%%I<PRId64> %%-I5d"\n' -c
 answers 'a macro, two lines of flags' "$other" "$c"'#, no-wrap\n'"$macro"
 answers 'a macro in another charset' ours "$c"'msgid "%%<PRId64>"\nmsgstr "\303\251 %%<PRId64>"\n'

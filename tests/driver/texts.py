@@ -27,8 +27,8 @@ RULES = (
 PLAIN = ('"a"', '"b"', '"c"', '"h\\\\n"', '"%d"', '"%s"', '"a" "b"', '""\n"b"', '"\u00e9"', '"i\\nj"')
 ENDED = ('"d\\n"', '"f\\012"', '"a"\n"d\\n"', '"h\\\\\\n"')
 BEGUN = ('"\\ne"', '"\\012g"')
-MACROS = ('"%<PRId64>"', '"%<PRIu32> %s"', '"%Id"', '"%2$Is %1$I<PRIu8>"', '"x%<PRIxMAX>%-5<PRIoPTR>y"', '"<PRId64>"', '"%<PRId65>"',
-          '"%<PRI" "dLEAST16>"', '"%*<PRIiFAST32>"', '"%jd %<PRIdMAX>"', '"%%<PRId64>"', '"%" "Id"', '"%<P" "RId64>"')  # fmt: skip
+MACROS = ('"%<PRId64>"', '"%<PRIu32> %s"', '"%2$s %1$I<PRIu8>"', '"x%<PRIxMAX>%-5<PRIoPTR>y"', '"<PRId64>"', '"%<PRId65>"',
+          '"%<PRI" "dLEAST16>"', '"%*<PRIiFAST32>"', '"%jd %<PRIdMAX>"', '"%%<PRId64>"')  # fmt: skip
 FLAGS = ("fuzzy", "c-format", "no-c-format", "no-wrap", "python-format", "php-format", "foo", "fuzzy, no-wrap",
          "c-format no-wrap", "no-wrap\tfuzzy", "possible-c-format", "range: 0..4")  # fmt: skip
 COMMENTS = ("#", "# x", "#. x", "#: x.c:3", "#| msgid \"q\"", "#| msgctxt \"q\"", "#|", "#~", "#~ # x", "#| # x", "#~| msgid \"q\"",
