@@ -23,9 +23,12 @@ catalogues() {
     count=$((count + 1))
     msgunfmt -o "bytes/installed-$count.po" "$it" 2> msgunfmt || rm -f "bytes/installed-$count.po"
   done
-  # (what msgfmt refuses for its macros is compared with GNU msgfmt's)
+  # (what msgfmt refuses for its macros is compared with GNU msgfmt's, but for another charset and the date of creation)
   for it in bytes/*.po; do
-    "$program" -o none.mo "$it" 2> said || { grep -q ': system-dependent format$' said && mv "$it" macros; }
+    "$program" -o none.mo "$it" 2> said || ! grep -q ': system-dependent format$' said || mv "$it" macros
+  done
+  for it in macros/*.po; do
+    [ -f "$it" ] && grep -q 'charset=UTF-8' "$it" && sed -i '/^"POT-Creation-Date:/d' "$it" || rm -f "$it"
   done
 }
 
