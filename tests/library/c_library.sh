@@ -81,9 +81,10 @@ if command -v python3 > /dev/null; then
   # installed catalogues, compared with Python's own gettext
   tests/lib/needs tools/gnu-msgfmt gettext
   find /usr/share/locale -name '*.mo' 2> /dev/null | sort | head -n 400 > "$room/installed"
-  said=$(LIBKOBDZILA=$PWD/$library/libkobdzila.so.0 PYTHONPATH=examples/python timeout 600 \
-    python3 -B tests/library/c_library.py installed < "$room/installed" 2>&1)
-  if [ $? = 0 ] && ! grep -q '^wrong' <<< "$said"; then
+  if [ -n "${EMULATED:-}" ]; then
+    skipped 'the C library from Python' "this machine's python3 loads no library of another"
+  elif said=$(LIBKOBDZILA=$PWD/$library/libkobdzila.so.0 PYTHONPATH=examples/python timeout 600 \
+    python3 -B tests/library/c_library.py installed < "$room/installed" 2>&1) && ! grep -q '^wrong' <<< "$said"; then
     ok "the C library from Python: $(tail -n 1 <<< "$said")"
   else
     failed 'the C library from Python' "$(head -c 300 <<< "$said")"

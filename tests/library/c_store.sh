@@ -62,7 +62,7 @@ fi
 # numbers of the exports that no function of the header returns
 name='the numbers that the exports of a store tell'
 if tools/machine_archive "$room/machine.a" cc -std=c11 -O2 > "$room/log" 2>&1 &&
-  compiles "$name" exports tests/library/c_exports.c -Ic/library crates/kobdzila_c/out/libkobdzila_c.a "$room/machine.a" \
+  compiles "$name" exports tests/library/c_exports.c -Ic/library "$(tools/machine core)" "$room/machine.a" \
     -Wl,--wrap=malloc,--wrap=realloc; then
   runs "$name" "$room/exports"
 fi

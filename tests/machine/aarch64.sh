@@ -85,6 +85,9 @@ declare -A left=(
   [library/c_tsan]='ThreadSanitizer needs another layout of memory than the emulator has'
   [msgfmt/answers]='its program, crates/test_answers, is built by the gate, for this machine'
   [msgfmt/every_call]='its program, crates/test_every_call, is built by the gate, for this machine'
+  [scripts/serve]='its program, crates/test_every_call, is built by the gate, for this machine'
+  [scripts/store]='its program, crates/test_every_call, is built by the gate, for this machine'
+  [mo/revisions]="this machine's python3 loads no library of another"
   [msgfmt/processor]='it is about x86-64-v2; what was built runs here on the first processor of aarch64'
 )
 lines_of "${quick[@]}"

@@ -202,7 +202,7 @@ fi
   "$html.tar.gz: not compared, since other tools made it: Sphinx: 7.2.6; here: Sphinx: 5.3.0" "$(grep -F "$html" <<< "$said")"
 if [ -n "$other" ]; then
   says 'the site, the crates and the source distribution are left to the other release' '' \
-    "$(find "$room/one/$build/dist" -name '*.crate' -o -name '*html*' -o -name "kobdzila-$version.tar.gz")"
+    "$(find "$room/one/$build/dist" -maxdepth 1 '(' -name '*.crate' -o -name '*html*' -o -name "kobdzila-$version.tar.gz" ')')"
 elif ! cargo --version > /dev/null 2>&1; then
   skipped 'the crates for Rust' 'no cargo'
 else

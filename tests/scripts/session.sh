@@ -126,14 +126,19 @@ if [ -c /dev/full ]; then
 else
   skipped 'session, an output that fails' 'no /dev/full'
 fi
+# (the second round is sent when the reader has gone, at the latest after 20 seconds)
 {
   printf "$round"
-  sleep 0.2
+  for ((n = 0; n < 1000; n++)); do [ ! -e "$room/gone" ] || break; sleep 0.02; done
   printf "$round"
 } | {
   "$session" 2> "$room/err"
   echo $? > "$room/status"
-} | head -n 1 > "$room/out"
+} | {
+  head -n 1 > "$room/out"
+  exec < /dev/null
+  : > "$room/gone"
+}
 status=$(cat "$room/status")
 says 'a reader of the output that goes away' 1 'accepted\t1\t0\t0\n' 'catsession: cannot write output'
 
