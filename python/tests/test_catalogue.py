@@ -34,7 +34,6 @@ REFUSED_TEXTS = [
     (b'msgid "a"\nmsgid_plural "b"\nmsgstr[1] "x"', Fault.PO_BAD_INDEX, 3),
     (b'msgid "a"\nmsgstr "x"\nmsgid "a"\nmsgstr "y"', Fault.PO_DUPLICATE, 3),
     (b'msgid ""\nmsgstr "charset=EUC-JP"', Fault.PO_CHARSET, 1),
-    (b'#, c-format\nmsgid "%<PRIu64>"\nmsgstr "x"', Fault.PO_SYSTEM_DEPENDENT, 2),
 ]
 CHECKED_TEXTS = [
     (b'msgid "a"\nmsgid_plural "b"\nmsgstr[0] "x"', Fault.PO_NO_RULE),
@@ -64,6 +63,8 @@ SYSTEM_DEPENDENT = bytes.fromhex(
     "7800000097000000030000000000000001000000ffffffff9b000000010000000000000003000000ffffffff73005300"
     "505249753634006e20250025204e00"
 )
+# The text that it writes this file of.
+SYSTEM_TEXT = b'msgid "s"\nmsgstr "S"\n#, c-format\nmsgid "n %<PRIu64>"\nmsgstr "%<PRIu64> N"\n'
 FORMS = 25
 
 
@@ -83,6 +84,14 @@ class OpeningTest(unittest.TestCase):
         with self.assertRaises(Refused) as caught:
             Catalogue.from_mo(SYSTEM_DEPENDENT[:28] + b"\xff" + SYSTEM_DEPENDENT[29:])
         self.assertEqual(caught.exception.kind, Fault.MO_DEPENDENT_TABLES)
+
+    def test_text_with_macros(self) -> None:
+        catalogue = Catalogue.from_po(SYSTEM_TEXT, checked=True)
+        self.assertEqual(catalogue.mo_file(), SYSTEM_DEPENDENT)
+        self.assertEqual((catalogue.gettext("n %lu"), catalogue.gettext("s")), ("%lu N", "S"))
+        with self.assertRaises(Refused) as caught:
+            Catalogue.from_po(SYSTEM_TEXT.replace(b"%<PRIu64> N", b"%<PRId64> N"), checked=True)
+        self.assertEqual(caught.exception.kind, Fault.PO_FORMAT_MISMATCH)
 
     def test_formats(self) -> None:
         file = french().mo_file()

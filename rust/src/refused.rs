@@ -113,7 +113,7 @@ kinds! {
     PoDuplicate = 109,
     /// The header of the PO text names a charset that isn't decoded.
     PoCharset = 110,
-    /// A format has directives that depend on the system, such as `%<PRId64>`.
+    /// A format has directives that depend on the system, such as `%<PRId64>`. Only C's `KOB_STRICT` refuses them.
     PoSystemDependent = 111,
     /// There is a plural message and no plural rule.
     PoNoRule = 112,

@@ -19,7 +19,7 @@ fn refuses_po(text: &[u8], kind: Kind, line: Option<u32>, message: &str) {
 #[test]
 fn each_reason_of_a_po_text() {
     use Kind::*;
-    let texts: [(&str, Kind, u32, &str); 15] = [
+    let texts: [(&str, Kind, u32, &str); 14] = [
         ("msgid \"a\"\nmsgstr \"\\q\"\n", PoBadEscape, 2, "bad escape"),
         ("msgid \"a\nmsgstr \"x\"\n", PoOpenString, 1, "string not closed"),
         ("word\n", PoBadWord, 1, "unknown word"),
@@ -42,12 +42,6 @@ fn each_reason_of_a_po_text() {
             PoCharset,
             1,
             "unsupported charset",
-        ),
-        (
-            "#, c-format\nmsgid \"%<PRId64>\"\nmsgstr \"x\"\n",
-            PoSystemDependent,
-            2,
-            "system-dependent format",
         ),
         (PLURAL, PoNoRule, 1, "plural message without a rule"),
         (&ruled("nplurals=1; plural=;"), PoBadRule, 1, "unreadable plural rule"),
@@ -154,6 +148,10 @@ fn strings_that_depend_on_the_system() {
     let catalogue = Catalogue::from_mo(&file).unwrap();
     assert_eq!(catalogue.gettext("n %lu"), "%lu N");
     assert_eq!(catalogue.gettext("s"), "S");
+    let text = b"msgid \"s\"\nmsgstr \"S\"\n#, c-format\nmsgid \"n %<PRIu64>\"\nmsgstr \"%<PRIu64> N\"\n";
+    let compiled = Catalogue::from_po(text, Options::new()).unwrap();
+    assert_eq!(compiled.mo_file(), file);
+    assert_eq!(compiled.gettext("n %lu"), "%lu N");
     file[84] = 0;
     refuses_mo(&file, Kind::MoDependentSegment, "bad segment");
 }
