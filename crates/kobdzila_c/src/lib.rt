@@ -79,8 +79,8 @@ pub unsafe extern "C" fn kobdzila_open_mo(
 }
 
 /// Compiles a PO text, and writes its catalogue, or why it is refused, to `out`. An option is on if its argument isn't
-/// 0. With `strict` the text must be UTF-8; otherwise it may be in any charset of `charsets`. With `without_index` the
-/// catalogue gets no index.
+/// 0. With `strict` the text must be UTF-8, and no format may name a macro; otherwise it may be in any charset of
+/// `charsets`, and have macros. With `without_index` the catalogue gets no index.
 #[unsafe(no_mangle)]
 pub unsafe extern "C" fn kobdzila_open_po(
     alloc: Global,
@@ -604,7 +604,7 @@ pub unsafe extern "C" fn kobdzila_write_po(
     (out as *mut HeldOutput).write(c_outputs::write_text(alloc, &*(held as *const Opened), escape));
 }
 
-/// Writes the faults of the formats of Python in a PO text to `out`, or why it is refused. An option is on if its
+/// Writes the faults of the formats in a PO text to `out`, or why it is refused. An option is on if its
 /// argument isn't 0. The text may be in any charset of `charsets`.
 #[unsafe(no_mangle)]
 pub unsafe extern "C" fn kobdzila_format_faults(
