@@ -3,3 +3,4 @@ mod Gathering
 mod Files
 mod Foreign
 mod Faults
+mod Flags

@@ -2,3 +2,4 @@ pub mod MessagesHere
 pub mod MessagesFile
 pub mod TextFiles
 pub mod FileFaults
+pub mod DigitsFlag
