@@ -220,7 +220,7 @@ void kob_statistics(const kob_catalogue *catalogue, kob_counts *counts);
  * PO file with system-dependent strings (kob_open_po). The bytes are borrowed from the catalogue. */
 kob_text kob_mo_file(const kob_catalogue *catalogue);
 
-/* A PO file that was written of a catalogue. It is immutable, and needs the catalogue no more. */
+/* A PO file that was written of a catalogue, or decoded. It is immutable, and needs nothing that it was made of. */
 typedef struct kob_po_file kob_po_file;
 
 /* How to write a PO file: 0, or KOB_ESCAPED. */
@@ -233,6 +233,12 @@ enum kob_po_options {
  * it as the same catalogue, but for entries whose translation is empty, if it has at most 67,108,864 bytes. The caller
  * frees it with kob_po_free. */
 kob_po_file *kob_write_po(const kob_catalogue *catalogue, unsigned options);
+
+/* Return the PO file in `bytes` in UTF-8: decoded from the charset that the header at its front names, with UTF-8 in
+ * place of that name. kob_open_po opens it as it opens `bytes`. If it is refused, return NULL and store the reason in
+ * *why: KOB_PO_CHARSET if such a header isn't there or names no charset that is decoded, as in a file in UTF-8, or
+ * KOB_PO_NO_CHARACTER, KOB_PO_TOO_LARGE or KOB_MEMORY. The caller frees the file with kob_po_free. */
+kob_po_file *kob_recode_po(const void *bytes, size_t len, kob_refusal *why);
 
 /* Return the bytes of a PO file, which don't end in NUL. They are borrowed from it. */
 kob_text kob_po_text(const kob_po_file *file);

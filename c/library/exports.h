@@ -68,6 +68,7 @@ size_t kobdzila_output_size(void);
 void kobdzila_write_po(const struct held_catalogue *catalogue, uint32_t escape, struct held_output *out);
 void kobdzila_format_faults(const unsigned char *bytes, size_t len, uint32_t checked, uint32_t use_fuzzy,
                             struct held_output *out);
+void kobdzila_recode(const unsigned char *bytes, size_t len, struct held_output *out);
 uint64_t kobdzila_output_number(const struct held_output *output, uint32_t which, uint64_t place);
 void kobdzila_output_text(const struct held_output *output, struct lent *out);
 void kobdzila_output_close(struct held_output *output);

@@ -37,6 +37,14 @@ kob_po_file *kob_write_po(const kob_catalogue *catalogue, unsigned options) {
     return made_or_refused(made, NULL);
 }
 
+kob_po_file *kob_recode_po(const void *bytes, size_t len, kob_refusal *why) {
+    void *made = malloc(kobdzila_output_size());
+    if (!made)
+        return refuse(why, KOB_MEMORY, 0);
+    kobdzila_recode(len ? bytes : "", len, held_output(made));
+    return made_or_refused(made, why);
+}
+
 kob_text kob_po_text(const kob_po_file *file) {
     struct lent out;
     kobdzila_output_text((const struct held_output *)file, &out);

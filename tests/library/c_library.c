@@ -99,6 +99,21 @@ static void po_files(void) {
     kob_po_free(NULL);
 }
 
+/* a PO file in another charset, whose texts are those that iconv(1) writes */
+static void recoding(void) {
+    static const char latin[] = "msgid \"\"\nmsgstr \"Content-Type: text/plain; charset=ISO-8859-2\\n\"\nmsgid \"a\"\nmsgstr \"\351\271\"\n";
+    static const char utf8[] = "msgid \"\"\nmsgstr \"Content-Type: text/plain; charset=UTF-8\\n\"\nmsgid \"a\"\nmsgstr \"\303\251\305\241\"\n";
+    static const char none[] = "msgid \"\"\nmsgstr \"charset=ISO-8859-7\\n\"\nmsgid \"a\"\nmsgstr \"\256\"\n";
+    kob_refusal why;
+    kob_po_file *file = kob_recode_po(latin, strlen(latin), &why);
+    is("a PO file in ISO-8859-2", file && why.fault == KOB_NO_FAULT && same(kob_po_text(file), utf8));
+    kob_po_free(file);
+    is("a PO file in UTF-8", !kob_recode_po(utf8, strlen(utf8), &why) && why.fault == KOB_PO_CHARSET && why.line == 0);
+    is("a byte without a character", !kob_recode_po(none, strlen(none), &why) && why.fault == KOB_PO_NO_CHARACTER &&
+       why.line == 4);
+    is("an empty PO file", !kob_recode_po(NULL, 0, NULL));
+}
+
 /* The faults that GNU msgfmt 0.21 reports of the same text with --check-format, by their lines and forms. */
 static void formats(void) {
     static const char text_of_faults[] = "msgid \"\"\nmsgstr \"charset=UTF-8\\nPlural-Forms: nplurals=2; plural=n>1;\\n\"\n"
@@ -536,6 +551,7 @@ static void calls(void) {
     texts(c);
     files(c, "c_library.mo");
     po_files();
+    recoding();
     formats();
     is("retain", kob_retain(c) == c);
     kob_release(c);

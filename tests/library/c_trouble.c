@@ -259,6 +259,25 @@ static void sweep_po_file(void) {
     }
 }
 
+/* a PO file in another charset */
+static void sweep_recoding(void) {
+    static const char bytes[] = "msgid \"\"\nmsgstr \"charset=KOI8-R\\n\"\nmsgid \"a\"\nmsgstr \"\301\"\n";
+    unsigned long before = blocks;
+    for (unsigned long k = 1;; k++) {
+        kob_refusal why;
+        requests = 0;
+        refused = k;
+        kob_po_file *file = kob_recode_po(bytes, strlen(bytes), &why);
+        int was_refused = requests >= k;
+        refused = 0;
+        is("a decoded file", file ? kob_po_text(file).len == strlen(bytes) : was_refused && why.fault == KOB_MEMORY);
+        kob_po_free(file);
+        is("nothing is leaked of decoding", blocks == before);
+        if (!was_refused || wrong)
+            break;
+    }
+}
+
 static void memory(void) {
     char name[4200];
     given = kob_open_po(po, strlen(po), 0, NULL);
@@ -282,6 +301,7 @@ static void memory(void) {
     sweep("kob_set_open", set_open, opened_set_is_right);
     sweep_sizes();
     sweep_po_file();
+    sweep_recoding();
     sweep_formats();
     kob_release(given);
     kob_set_release(given_set);

@@ -1,11 +1,17 @@
 -- What is made of a catalogue that C holds, or of a PO text: a PO text, or a list of faults.
-use Rattle.std.specs.Prelude.{◌≡◌, ◌⊎◌, ℕ, ◌==◌, if◌then◌else◌, Bool, List, [], length, slice_get, MatchOption}
+use Rattle.std.specs.Prelude.{◌≡◌, ◌⊎◌, ℕ, ◌<◌, ◌==◌, if◌then◌else◌, Bool, List, [], length, slice_get, MatchOption}
 use Rattle.std.specs.Option.{option_map_or}
 use Rattle.std.specs.Arc.{arc_value}
 use Rattle.mo_image.specs.Entry.{Entry}
 use Rattle.po_writing.specs.Written.{po_of}
 use Rattle.po_checks.specs.declared.options.Options.{Options}
+use Rattle.po_checks.specs.Refusal.{out_of_memory}
+use Rattle.po_checks.specs.declared.fault.LoadKind.TheVariants.{TooLarge, Charset as UnknownCharset}
+use Rattle.po_text.specs.Outcome.{max_text}
+use Rattle.any_charset.specs.Declaring.{DeclaresNone}
+use Rattle.any_charset.specs.Recoding.{IsRecoded, LacksCharacter}
 use Rattle.any_charset.specs.declared.fault.TextFault.{TextFault}
+use Rattle.any_charset.specs.declared.fault.TextFault.TheVariants.{Load, NoCharacter}
 use Rattle.format_checks.specs.declared.Difference.{Difference}
 use Rattle.format_checks.specs.declared.Difference.TheVariants.{Invalid, Arguments}
 use Rattle.format_checks.specs.declared.Fault.{Fault}
@@ -46,6 +52,21 @@ IsPoTextOf escape m o = IsMadeAs (IsPo (λ text. text ≡ po_of escape m)) o ⊎
 abbrev pub IsPoText : Bool → Opened → HeldOutput → Type 0
 IsPoText escape opened o = MatchOption opened.catalogue (IsUnmade opened.fault opened.line o)
     (λ shared. IsPoTextOf escape (arc_value shared) o)
+
+-- ---- PO texts in UTF-8
+
+-- why there is no text in UTF-8: the text is too large, it declares no charset that is known here, a byte of it has no
+-- character, or memory ran out
+abbrev pub IsNotRecoded : List ℕ → TextFault → Type 0
+IsNotRecoded text (Load fault) = (fault ≡ out_of_memory)
+    ⊎ ((fault ≡ record { kind = TooLarge; line = 0 }) × (max_text < length text))
+    ⊎ ((fault ≡ record { kind = UnknownCharset; line = 0 }) × DeclaresNone text)
+IsNotRecoded text (NoCharacter line) = LacksCharacter text line
+
+-- the text in UTF-8, or the number and the line of why there is none
+abbrev pub IsRecodedText : List ℕ → HeldOutput → Type 0
+IsRecodedText text o = IsMadeAs (IsPo (IsRecoded text)) o
+    ⊎ (fault : TextFault) × IsNotRecoded text fault × IsUnmade (text_fault_number fault) (line_of fault) o
 
 -- the bytes of a PO text
 abbrev pub text_in : Output → List ℕ

@@ -5,5 +5,5 @@ mod outputs;
 
 pub use outputs::{
     HeldOutput, Output, check_formats, close_output, output_number, output_size, output_text,
-    write_text,
+    recode, write_text,
 };

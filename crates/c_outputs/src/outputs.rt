@@ -7,24 +7,36 @@ ghost use prog.Memory.{align, size};
 ghost use Rattle.c_opening.specs.Opening.{options_of};
 ghost use Rattle.c_outputs.specs.contracts.outputs.HeldOutput.{the_row};
 ghost use Rattle.c_outputs.specs.Outputs.{IsFormatFaults, IsPoText, IsPoTextOf, IsUnmade, faults_in, text_in};
-ghost use Rattle.c_outputs.specs.Outputs.{difference_number, fault_part, output_number};
+ghost use Rattle.any_charset.specs.Recoding.{IsRecoded};
+ghost use Rattle.c_outputs.specs.Outputs.{IsNotRecoded, IsRecodedText, difference_number, fault_part, output_number};
 
-use any_charset::TextFault;
+use any_charset::{TextFault, recoded};
 use c_answers::Opened;
 use c_answers::numbers::{
     COUNT, FAULT, FAULT_DIFFERENCE, FAULT_FORM, FAULT_LANGUAGE, FAULT_LINE, LINE, MEMORY, NO_FAULT,
 };
 use c_opening::{copied, number_and_line, options_of};
-use catalogue::{Catalogue, LoadFault, LoadKind, Options};
+use catalogue::{Catalogue, LoadFault, LoadKind, MAX_TEXT, Options};
 use format_checks::{Difference, Fault, Language};
 use po_formats::format_faults;
 use po_writing::write_po;
 use std::alloc::Global;
 
+const TOO_LARGE: LoadFault = LoadFault {
+    kind: LoadKind::TooLarge,
+    line: 0,
+};
+
+/// The refusal of a text that declares no charset of `charsets`.
+const NO_CHARSET: LoadFault = LoadFault {
+    kind: LoadKind::Charset,
+    line: 0,
+};
+
 /// What was made.
 #[derive(Drop)]
 pub enum Output {
-    /// The PO text of a catalogue.
+    /// The PO text of a catalogue, or a PO text in UTF-8.
     Po(Vec<u8>),
     /// The faults of the formats in a PO text.
     Faults(Vec<Fault>),
@@ -107,6 +119,38 @@ pub fn check_formats(alloc: Global, bytes: &[u8], checked: u32, use_fuzzy: u32) 
     match faults_of_copy(alloc, bytes, options_of(checked, use_fuzzy)) {
         Ok(faults) => HeldOutput {
             output: Output::Faults(faults),
+            fault: NO_FAULT,
+            line: 0,
+        },
+        Err(fault) => {
+            let (number, line) = number_and_line(fault);
+            unmade(number, line)
+        }
+    }
+}
+
+/// The PO text in UTF-8, or why there is none.
+fn recoded_text(alloc: Global, bytes: &[u8]) -> Result<Vec<u8>, TextFault>
+    ensures ok { IfOk result (λ recoded. IsRecoded bytes.now recoded.items) }
+    ensures err { IfErr result (IsNotRecoded bytes.now) }
+{
+    if MAX_TEXT < bytes.len() {
+        return Err(TextFault::Load(TOO_LARGE));
+    }
+    match recoded(alloc, bytes)? {
+        Some(recoded) => Ok(recoded),
+        None => Err(TextFault::Load(NO_CHARSET)),
+    }
+}
+
+/// A PO text in UTF-8: decoded from the charset that the header at its front declares, which is one of `charsets`, and
+/// with `UTF-8` in place of that charset's name. A text that declares none is refused for its charset.
+pub fn recode(alloc: Global, bytes: &[u8]) -> HeldOutput
+    ensures { IsRecodedText bytes.now result }
+{
+    match recoded_text(alloc, bytes) {
+        Ok(text) => HeldOutput {
+            output: Output::Po(text),
             fault: NO_FAULT,
             line: 0,
         },

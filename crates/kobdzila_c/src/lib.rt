@@ -17,7 +17,7 @@ ghost use Rattle.c_answers.specs.Listing.{number};
 ghost use Rattle.c_answers.specs.contracts.opened.Opened.{the_row};
 ghost use Rattle.c_answers.specs.declared.opened.Opened.{Opened as Held};
 ghost use Rattle.c_opening.specs.Opening.{options_of};
-ghost use Rattle.c_outputs.specs.Outputs.{IsFormatFaults, IsPoText, output_number};
+ghost use Rattle.c_outputs.specs.Outputs.{IsFormatFaults, IsPoText, IsRecodedText, output_number};
 ghost use Rattle.c_outputs.specs.contracts.outputs.HeldOutput.{the_row as output_row};
 ghost use Rattle.c_outputs.specs.declared.outputs.HeldOutput.{HeldOutput as AnOutput};
 ghost use Rattle.c_sets.specs.Making.{IsEmpty, IsWith, set_number};
@@ -618,6 +618,15 @@ pub unsafe extern "C" fn kobdzila_format_faults(
     ensures* { sem 𝓛 (output_at out (IsFormatFaults bytes.now (options_of checked use_fuzzy))) }
 {
     (out as *mut HeldOutput).write(c_outputs::check_formats(alloc, bytes, checked, use_fuzzy));
+}
+
+/// Writes a PO text in UTF-8 to `out`, decoded from the charset of `charsets` that it declares, or why there is none.
+#[unsafe(no_mangle)]
+pub unsafe extern "C" fn kobdzila_recode(alloc: Global, bytes: &[u8], out: *mut OpaqueOutput)
+    requires* { sem 𝓛 (room_at output_row out) }
+    ensures* { sem 𝓛 (output_at out (IsRecodedText bytes.now)) }
+{
+    (out as *mut HeldOutput).write(c_outputs::recode(alloc, bytes));
 }
 
 /// A number (`c_answers::numbers`) of the output at `held`: its `FAULT`, the fault's `LINE`, or the `COUNT` of the
