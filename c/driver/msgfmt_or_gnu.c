@@ -37,7 +37,7 @@ struct run {
     char *input_name; /* the name that the two programs get for it */
     struct text text;
     struct text utf8; /* the text in UTF-8, if it was converted */
-    bool has_macros;  /* libkobdzila compiles it */
+    bool is_dependent; /* libkobdzila compiles it */
     unsigned long long header_line;
     size_t plain_macros;
     int recoded;      /* a descriptor for that, or -1 */
@@ -298,7 +298,7 @@ static struct part utf8_of(const struct run *run) {
 /* Compile the text by Kobdzila's msgfmt or, if msgfmt refuses such texts, by libkobdzila. */
 static struct answer run_compiler(struct run *run, const char *output, int standard_output) {
     const struct request *request = run->request;
-    if (!run->has_macros)
+    if (!run->is_dependent)
         return run_ours(run, output, standard_output);
     bool checked = request->checks_format || request->checks_header;
     struct macro_text text = {utf8_of(run), run->input_name, checked, request->keeps_fuzzy, run->header_line,
@@ -517,18 +517,16 @@ _Noreturn static void compile_text(struct run *run, const char *why) {
 }
 
 /* Convert the text if its charset asks for it. A text with a byte that has no character is left to GNU msgfmt. */
-static void recode(struct run *run, const struct needs *needs, char *why) {
+static void recode(struct run *run, char *why) {
     struct text *utf8 = &run->utf8;
-    if (!needs->charset)
-        return;
-    struct part bytes = {run->text.bytes, run->text.bytes + run->text.len};
-    utf8->bytes = recoded(bytes, needs->name, needs->charset, &utf8->len);
-    if (!utf8->bytes && errno == ENOMEM)
+    struct part text = {run->text.bytes, run->text.bytes + run->text.len};
+    enum recoding done = recode_text(text, &utf8->bytes, &utf8->len);
+    if (done == NO_MEMORY)
         stop_for_memory();
-    if (!utf8->bytes) {
+    if (done == NO_CHARACTER)
         snprintf(why, WHY_SIZE, "a byte that is no character");
+    if (done != RECODED)
         return;
-    }
     run->recoded = unnamed_file();
     if (run->recoded < 0 || !write_all(run->recoded, utf8->bytes, utf8->len))
         stop("cannot keep the converted text: ", strerror(errno));
@@ -581,11 +579,12 @@ _Noreturn static void drive(struct run *run) {
         log_files(request, "ours", 1, why, milliseconds_of(run));
         _exit(1);
     }
-    struct needs needs = needs_of(request, run->text.bytes, run->text.len);
+    if (!why[0])
+        recode(run, why);
+    struct part text = utf8_of(run);
+    struct needs needs = needs_of(request, text.at, (size_t)(text.end - text.at));
     if (!why[0])
         memcpy(why, needs.why, sizeof why);
-    if (!why[0] && !needs.line)
-        recode(run, &needs, why);
     if (needs.line)
         end_with_flag_lines(run, needs.line);
     if (!why[0] && !is_utf8(run->input))
@@ -594,10 +593,10 @@ _Noreturn static void drive(struct run *run) {
         end_by_gnu(run, why);
     if (needs.format && has_library())
         check_formats(run, needs.format);
-    run->has_macros = needs.has_macros && has_library();
+    run->is_dependent = needs.is_dependent && has_library();
     run->header_line = needs.header_line;
     run->plain_macros = needs.plain_macros;
-    if (!run->has_macros) { /* (msgfmt reads the file for itself) */
+    if (!run->is_dependent) { /* (msgfmt reads the file for itself) */
         free(run->text.bytes);
         free(run->utf8.bytes);
     }

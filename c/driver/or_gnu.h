@@ -52,24 +52,20 @@ struct part {
     const char *at, *end;
 };
 
-/* A charset with one byte for a character. */
-struct charset;
+/* What became of a text that may be in another charset than UTF-8. A byte without a character is NO_CHARACTER. */
+enum recoding { AS_IT_IS, RECODED, NO_CHARACTER, NO_MEMORY };
 
-/* Return the charset of a name, in any case: one that GNU msgfmt calls portable; NULL if it isn't in the tables. */
-const struct charset *charset_named(struct part name);
-/* Convert a text to UTF-8, with `UTF-8` in place of the charset's name, which is a part of it. NULL if memory runs out,
- * or with errno EILSEQ if a byte has no character. */
-char *recoded(struct part bytes, struct part name, const struct charset *charset, size_t *len);
+/* Convert a text to UTF-8, with `UTF-8` in place of the charset's name, if its header names a charset that GNU msgfmt
+ * calls portable and that libkobdzila decodes. The caller frees *bytes. */
+enum recoding recode_text(struct part text, char **bytes, size_t *len);
 
 /* What decides which program compiles a PO text. */
 struct needs {
-    const struct charset *charset; /* what the text is converted from, or NULL; `name` is its name in the header */
-    struct part name;
     char why[WHY_SIZE];      /* why Kobdzila's msgfmt would refuse it or can't check it, as it is shown, or empty */
     bool helps;              /* GNU msgfmt may compile what Kobdzila's refuses of it */
     unsigned long long line; /* the number of the first `#=` line that has a flag, or 0 */
     unsigned long long header_line; /* that of the header's first keyword, or 0 */
-    bool has_macros;         /* an entry may have system-dependent strings, which libkobdzila compiles */
+    bool is_dependent;       /* an entry may have system-dependent strings, which libkobdzila compiles */
     size_t plain_macros;     /* how many entries have a macro without being flagged c-format */
     const char *format;      /* the flag of formats that are to be checked by libkobdzila, or NULL */
 };

@@ -1,61 +1,59 @@
-/* Converts a PO text to UTF-8, as GNU msgfmt does since 0.22, so that Kobdzila's msgfmt can compile it. */
+/* Converts a PO text to UTF-8 by libkobdzila, as GNU msgfmt does since 0.22, so that Kobdzila's msgfmt can compile it. */
+#include "kobdzila.h"
 #include "or_gnu.h"
-#include "or_gnu_tables.h"
+#include "or_gnu_formats.h"
 #include "or_gnu_text.h"
 
-#include <errno.h>
 #include <stdlib.h>
 #include <string.h>
 #include <strings.h>
 
-enum { MOST_OF_BYTE = 3 }; /* bytes of a converted byte: no code point of the tables is above 0xFFFF */
+#pragma weak kob_recode_po
+#pragma weak kob_po_text
+#pragma weak kob_po_free
 
-const struct charset *charset_named(struct part name) {
-    size_t len = (size_t)(name.end - name.at);
-    for (size_t i = 0; i < sizeof charsets / sizeof *charsets; i++)
-        if (strlen(charsets[i].name) == len && !strncasecmp(charsets[i].name, name.at, len))
-            return charsets + i;
-    return NULL;
+/* Charsets that GNU msgfmt calls portable, but for ASCII and UTF-8; of another name it warns. Those that libkobdzila
+ * doesn't decode aren't listed. */
+static const char *const portable[] = {
+    "ANSI_X3.4-1968", "ISO-8859-1", "ISO_8859-1", "ISO-8859-2", "ISO_8859-2", "ISO-8859-3", "ISO_8859-3",
+    "ISO-8859-4", "ISO_8859-4", "ISO-8859-5", "ISO_8859-5", "ISO-8859-6", "ISO_8859-6", "ISO-8859-7", "ISO_8859-7",
+    "ISO-8859-8", "ISO_8859-8", "ISO-8859-9", "ISO_8859-9", "ISO-8859-13", "ISO_8859-13", "ISO-8859-14",
+    "ISO_8859-14", "ISO-8859-15", "ISO_8859-15", "KOI8-R", "KOI8-U", "KOI8-T", "CP850", "CP866", "CP874", "CP1250",
+    "CP1251", "CP1252", "CP1253", "CP1254", "CP1256", "CP1257", "GB2312", "EUC-JP", "EUC-KR", "BIG5", "GBK",
+    "SHIFT_JIS", "TIS-620", "GEORGIAN-PS"};
+
+static bool is_portable(const char *name, size_t len) {
+    for (size_t i = 0; i < sizeof portable / sizeof *portable; i++)
+        if (strlen(portable[i]) == len && !strncasecmp(portable[i], name, len))
+            return true;
+    return false;
 }
 
-static char *put(char *to, unsigned code) {
-    if (code < 0x80) {
-        *to++ = (char)code;
-    } else if (code < 0x800) {
-        *to++ = (char)(0xC0 | code >> 6);
-        *to++ = (char)(0x80 | (code & 0x3F));
-    } else {
-        *to++ = (char)(0xE0 | code >> 12);
-        *to++ = (char)(0x80 | (code >> 6 & 0x3F));
-        *to++ = (char)(0x80 | (code & 0x3F));
-    }
-    return to;
+/* Whether the first charset that a text names is one of them. */
+static bool may_be_recoded(struct part text) {
+    static const char mark[] = "charset=";
+    const char *at = memmem(text.at, (size_t)(text.end - text.at), mark, strlen(mark));
+    if (!at)
+        return false;
+    at += strlen(mark);
+    size_t len = 0;
+    while (at + len < text.end && at[len] && !strchr(" \t\n\\\"", at[len]))
+        len++;
+    return is_portable(at, len);
 }
 
-/* Convert bytes; NULL if one of them has no character. */
-static char *converted(char *to, struct part bytes, const struct charset *charset) {
-    for (; to && bytes.at < bytes.end; bytes.at++) {
-        unsigned byte = (unsigned char)*bytes.at;
-        unsigned code = byte < 0x80 ? byte : charset->codes[byte - 0x80];
-        to = byte >= 0x80 && !code ? NULL : put(to, code);
-    }
-    return to;
-}
-
-char *recoded(struct part bytes, struct part name, const struct charset *charset, size_t *len) {
-    static const char utf8[] = "UTF-8";
-    size_t most = MOST_OF_BYTE * (size_t)(bytes.end - bytes.at) + sizeof utf8;
-    char *text = malloc(most);
-    if (!text)
-        return NULL;
-    char *end = converted(text, (struct part){bytes.at, name.at}, charset);
-    if (end)
-        end = converted(stpcpy(end, utf8), (struct part){name.end, bytes.end}, charset);
-    if (!end) {
-        free(text);
-        errno = EILSEQ;
-        return NULL;
-    }
-    *len = (size_t)(end - text);
-    return text;
+enum recoding recode_text(struct part text, char **bytes, size_t *len) {
+    kob_refusal why;
+    if (!has_library() || !may_be_recoded(text))
+        return AS_IT_IS;
+    kob_po_file *file = kob_recode_po(text.at, (size_t)(text.end - text.at), &why);
+    if (!file)
+        return why.fault == KOB_MEMORY ? NO_MEMORY : why.fault == KOB_PO_NO_CHARACTER ? NO_CHARACTER : AS_IT_IS;
+    kob_text made = kob_po_text(file);
+    *len = made.len;
+    *bytes = malloc(made.len + 1);
+    if (*bytes)
+        memcpy(*bytes, made.at, made.len);
+    kob_po_free(file);
+    return *bytes ? RECODED : NO_MEMORY;
 }

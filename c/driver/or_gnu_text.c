@@ -49,8 +49,8 @@ static bool copy_charset(struct part header, char *name, size_t room) {
     return true;
 }
 
-/* Decide by the header's charset whether the text is compiled as it is, converted, or given to GNU msgfmt, which also warns
- * of a header without a charset. */
+/* Decide by the header's charset whether the text is compiled or given to GNU msgfmt, which also warns of a header without a
+ * charset. A text that is converted says UTF-8. */
 static void look_for_charset(struct scan *scan, struct part header, struct part text) {
     char name[MOST_OF_FLAG];
     if (!copy_charset(header, name, sizeof name)) {
@@ -60,17 +60,8 @@ static void look_for_charset(struct scan *scan, struct part header, struct part 
     struct part copy = {name, name + strlen(name)};
     if (is_name(copy, "UTF-8") || ((is_name(copy, "ASCII") || is_name(copy, "US-ASCII")) && is_ascii(text)))
         return;
-    const char *at = find(header, "charset=", 0);
-    struct part there = {at ? at + strlen("charset=") : NULL, NULL};
-    there.end = there.at ? there.at + (copy.end - copy.at) : NULL;
-    const struct charset *charset = there.at && there.end <= header.end && is(there, name) ? charset_named(copy) : NULL;
-    if (!charset) {
-        scan->needs.helps = true;
-        needs_gnu(scan, "charset=", copy);
-        return;
-    }
-    scan->needs.charset = charset;
-    scan->needs.name = there;
+    scan->needs.helps = true;
+    needs_gnu(scan, "charset=", copy);
 }
 
 static bool is_header(const struct entry *entry) {
@@ -106,7 +97,8 @@ static void look_at_kept(struct scan *scan, const struct entry *entry) {
     bool has_macro = flags->c_format && may_depend;
     struct part forms = {entry->form.at, entry->whole.end};
     scan->needs.plain_macros += may_depend && !has_macro && (names_macro(entry->id) || names_macro(forms));
-    scan->needs.has_macros |= has_macro;
+    bool has_flag = flags->c_format && has_library() && has_digits_flag(forms);
+    scan->needs.is_dependent |= has_macro || has_flag;
     scan->needs.helps |= has_macro && !has_library();
     if (has_macro && !has_library())
         needs_gnu_for(scan, "system-dependent format");
