@@ -195,9 +195,9 @@ class SilenceTest(LogCase):
         with Log(self.proxy.address) as log:
             self.assertEqual(log.wait_for(0, within=60), [])
             self.proxy.freeze()
-            for _ in range(2):
+            for silence in ("hasn't answered", "no answer in"):
                 begun = time.monotonic()
-                with self.assertRaises(psycopg.OperationalError):
+                with self.assertRaisesRegex(psycopg.OperationalError, silence):
                     log.wait_for(1, within=0.5)
                 self.assertLess(time.monotonic() - begun, SLOW + 1)
             self.proxy.thaw()

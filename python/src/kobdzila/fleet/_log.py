@@ -370,7 +370,8 @@ class Log(Closing):
             except OTHER_LAYOUT as trouble:
                 raise self._layout_refused(trouble) from trouble
             except psycopg.OperationalError as trouble:
-                if not was_used or trouble.sqlstate and not RETRIED.match(trouble.sqlstate):
+                is_over = time.monotonic() >= end # (another attempt would say that nobody answers in 0 s)
+                if not was_used or is_over or trouble.sqlstate and not RETRIED.match(trouble.sqlstate):
                     raise
 
     def _retry(self, work: Callable[[Watched], Version], number: uuid.UUID, within: float) -> Version:
