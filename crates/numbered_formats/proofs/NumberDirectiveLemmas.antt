@@ -1,6 +1,6 @@
 -- A text begins with at most one directive.
-use Rattle.std.proofs.Common.{◌≡◌, ℕ, ◌<◌, ◌≤◌, Bool, List, [], ◌∷◌, length, Option, None, Some, refl, sym, ap, ◌∙◌}
-use Rattle.std.proofs.Common.{◌==◌, subst, arith, inl, inr}
+use Rattle.std.proofs.Common.{◌≡◌, ℕ, ◌<◌, ◌≤◌, List, [], ◌∷◌, length, Option, None, Some, refl, sym, ap, ◌∙◌}
+use Rattle.std.proofs.Common.{◌==◌, arith, inl, inr}
 use Rattle.std.specs.List.{prefix_len}
 use Rattle.std.specs.Char.{is_ascii_digit}
 use Rattle.std.proofs.lemmas.Bool.{cases_Bool}
@@ -13,10 +13,10 @@ use Rattle.numbered_arguments.specs.NumberedArguments.{number_of}
 use Rattle.numbered_arguments.specs.declared.Size.TheVariants.{Plain}
 use Rattle.numbered_arguments.specs.declared.Request.{Request}
 use Rattle.numbered_formats.specs.declared.Notation.{Notation}
-use Rattle.numbered_formats.specs.declared.Notation.TheVariants.{Qt, QtPlural, Kde, Ycp}
+use Rattle.numbered_formats.specs.declared.Notation.TheVariants.{Qt, QtPlural, Kde, Ycp, Smalltalk}
 use Rattle.numbered_formats.specs.NumberDirectives.{percent, numbered, is_first_digit, digit_value, second, places}
 use Rattle.numbered_formats.specs.NumberDirectives.{qt, n}
-use Rattle.numbered_formats.specs.NumberDirectives.{qt_plural, kde, ycp, request, behind_percent, behind_plain}
+use Rattle.numbered_formats.specs.NumberDirectives.{qt_plural, kde, digit, request, behind_percent, behind_plain}
 use Rattle.numbered_formats.specs.NumberDirectives.{DirectiveAt}
 
 -- ---- what follows is no longer than the text
@@ -82,9 +82,9 @@ kde_within (b ∷ more) r rest e = elim (cases_Bool (is_first_digit b)) [
   | inr other ↦ absurd (cc (rw other at e))
 ]
 
-ycp_within : (text : List ℕ) → Within text (ycp text)
-ycp_within [] r rest e = absurd (cc e)
-ycp_within (b ∷ more) r rest e = elim (cases_Bool (is_first_digit b)) [
+digit_within : (text : List ℕ) → Within text (digit text)
+digit_within [] r rest e = absurd (cc e)
+digit_within (b ∷ more) r rest e = elim (cases_Bool (is_first_digit b)) [
   | inl digit ↦ omega (arith, some_rest (numbered (digit_value b) Any, more) (r, rest) (rw digit at e))
   | inr other ↦ absurd (cc (rw other at e))
 ]
@@ -93,7 +93,8 @@ request_within : (notation : Notation) (text : List ℕ) → Within text (reques
 request_within Qt text = qt_within text
 request_within QtPlural text = plural_within text
 request_within Kde text = kde_within text
-request_within Ycp text = ycp_within text
+request_within Ycp text = digit_within text
+request_within Smalltalk text = digit_within text
 
 percent_within : (text rest : List ℕ) → behind_percent text ≡ Some rest → length rest ≤ length text
 percent_within [] rest e = absurd (cc e)
@@ -112,6 +113,7 @@ all_within text rest e =
 plain_within : (notation : Notation) (text rest : List ℕ) → behind_plain notation text ≡ Some rest
     → length rest ≤ length text
 plain_within Ycp text rest e = percent_within text rest e
+plain_within Smalltalk text rest e = percent_within text rest e
 plain_within Qt text rest e = all_within text rest e
 plain_within QtPlural text rest e = all_within text rest e
 plain_within Kde text rest e = all_within text rest e

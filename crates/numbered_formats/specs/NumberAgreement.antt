@@ -4,7 +4,7 @@ use Rattle.std.specs.List.{list_all, find}
 use Rattle.numbered_arguments.specs.declared.Kind.{Kind}
 use Rattle.numbered_arguments.specs.declared.Kind.TheVariants.{Any, Text}
 use Rattle.format_arguments.specs.declared.Strictness.{Strictness}
-use Rattle.format_arguments.specs.declared.Strictness.TheVariants.{Same, Lenient}
+use Rattle.format_arguments.specs.declared.Strictness.TheVariants.{Lenient}
 use Rattle.numbered_arguments.specs.NumberedKinds.{same_kind}
 use Rattle.numbered_arguments.specs.declared.Numbered.{Numbered}
 use Rattle.numbered_arguments.specs.declared.index.Index.{Index}
@@ -12,7 +12,7 @@ use Rattle.numbered_arguments.specs.NumberedArguments as arguments
 use Rattle.numbered_arguments.specs.NumberedArguments.{has, covered}
 use Rattle.numbered_arguments.specs.NumberedIndex.{has_in}
 use Rattle.numbered_formats.specs.declared.Notation.{Notation}
-use Rattle.numbered_formats.specs.declared.Notation.TheVariants.{Qt, QtPlural, Kde, Ycp}
+use Rattle.numbered_formats.specs.declared.Notation.TheVariants.{Qt, Kde}
 
 -- ---- KDE
 

@@ -1,6 +1,6 @@
 -- Directives that name an argument by its number (GNU gettext manual, "Qt Format Strings", "KDE Format Strings", "YCP
--- Format Strings"; Qt's reference, "QString::arg" and "Writing Source Code for Translation"; KDE's "Programmer's Guide
--- for ki18n").
+-- Format Strings", "Smalltalk Format Strings"; Qt's reference, "QString::arg" and "Writing Source Code for Translation";
+-- KDE's "Programmer's Guide for ki18n"; GNU Smalltalk's reference, CharArray, `bindWith:`).
 use Rattle.std.specs.Prelude.{◌≡◌, ℕ, ◌+◌, ◌-◌, ◌*◌, Bool, not, ◌&&◌, ◌==◌, if◌then◌else◌, List, [], ◌∷◌, Option}
 use Rattle.std.specs.Prelude.{None, Some}
 use Rattle.std.specs.Char.{is_ascii_digit}
@@ -11,7 +11,7 @@ use Rattle.numbered_arguments.specs.declared.Size.TheVariants.{Plain}
 use Rattle.numbered_arguments.specs.declared.Request.{Request}
 use Rattle.numbered_arguments.specs.NumberedArguments.{number_of}
 use Rattle.numbered_formats.specs.declared.Notation.{Notation}
-use Rattle.numbered_formats.specs.declared.Notation.TheVariants.{Qt, QtPlural, Kde, Ycp}
+use Rattle.numbered_formats.specs.declared.Notation.TheVariants.{Qt, QtPlural, Kde, Ycp, Smalltalk}
 
 abbrev pub percent : ℕ
 percent = 37
@@ -59,15 +59,16 @@ kde (b ∷ more) = if is_first_digit b
     then Some (numbered (number_of (run is_ascii_digit (b ∷ more))) Any, behind is_ascii_digit (b ∷ more)) else None
 
 -- one digit, which isn't 0
-abbrev pub ycp : List ℕ → Option (Request × List ℕ)
-ycp [] = None
-ycp (b ∷ more) = if is_first_digit b then Some (numbered (digit_value b) Any, more) else None
+abbrev pub digit : List ℕ → Option (Request × List ℕ)
+digit [] = None
+digit (b ∷ more) = if is_first_digit b then Some (numbered (digit_value b) Any, more) else None
 
 abbrev pub request : Notation → List ℕ → Option (Request × List ℕ)
 request Qt text = qt text
 request QtPlural text = qt_plural text
 request Kde text = kde text
-request Ycp text = ycp text
+request Ycp text = digit text
+request Smalltalk text = digit text
 
 -- ---- a `%` that asks for nothing
 
@@ -75,9 +76,10 @@ abbrev pub behind_percent : List ℕ → Option (List ℕ)
 behind_percent [] = None
 behind_percent (b ∷ more) = if b == percent then Some more else None
 
--- what follows the `%`: in YCP another one, in other languages anything
+-- what follows the `%`: in YCP and Smalltalk another one, in other languages anything
 abbrev pub behind_plain : Notation → List ℕ → Option (List ℕ)
 behind_plain Ycp text = behind_percent text
+behind_plain Smalltalk text = behind_percent text
 behind_plain _ text = Some text
 
 -- ---- directives

@@ -7,7 +7,7 @@ use Rattle.numbered_arguments.specs.declared.index.Index.{Index}
 use Rattle.numbered_arguments.specs.NumberedArguments.{has}
 use Rattle.numbered_arguments.specs.NumberedIndex.{has_in}
 use Rattle.numbered_formats.specs.declared.Notation.{Notation}
-use Rattle.numbered_formats.specs.declared.Notation.TheVariants.{Qt, QtPlural, Kde, Ycp}
+use Rattle.numbered_formats.specs.declared.Notation.TheVariants.{Kde}
 
 abbrev pub any : ℕ → Numbered
 any number = record { number = number; kind = Any }

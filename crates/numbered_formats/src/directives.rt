@@ -97,8 +97,9 @@ fn read_kde(text: &[u8]) -> Option<(Request, &[u8])>
     }
 }
 
-fn read_ycp(text: &[u8]) -> Option<(Request, &[u8])>
-    ensures { option_map (λ found. (found.0, found.1.now)) result ≡ spec.ycp text.now }
+/// Reads one digit, which isn't 0.
+fn read_digit(text: &[u8]) -> Option<(Request, &[u8])>
+    ensures { option_map (λ found. (found.0, found.1.now)) result ≡ spec.digit text.now }
 {
     match split_byte(text) {
         Some((first, rest)) => if is_first_digit(first) {
@@ -117,7 +118,7 @@ fn read_request(notation: Notation, text: &[u8]) -> Option<(Request, &[u8])>
         Notation::Qt => read_qt(text),
         Notation::QtPlural => read_qt_plural(text),
         Notation::Kde => read_kde(text),
-        Notation::Ycp => read_ycp(text),
+        Notation::Ycp | Notation::Smalltalk => read_digit(text),
     }
 }
 
@@ -136,7 +137,7 @@ fn after_plain(notation: Notation, text: &[u8]) -> Option<&[u8]>
     ensures { option_map (λ rest. rest.now) result ≡ spec.behind_plain notation text.now }
 {
     match notation {
-        Notation::Ycp => after_percent(text),
+        Notation::Ycp | Notation::Smalltalk => after_percent(text),
         _ => Some(text),
     }
 }

@@ -1,6 +1,6 @@
 //! Argument lists of formats whose directives name their arguments by number alone: `kde-format`, `qt-format`,
-//! `qt-plural-format` and `ycp-format` (GNU gettext manual, "Qt Format Strings", "KDE Format Strings", "YCP Format
-//! Strings").
+//! `qt-plural-format`, `ycp-format` and `smalltalk-format` (GNU gettext manual, "Qt Format Strings", "KDE Format
+//! Strings", "YCP Format Strings", "Smalltalk Format Strings").
 #![tactic(auto)]
 
 mod agreement;
@@ -23,4 +23,6 @@ pub enum Notation {
     Kde,
     /// `%1` to `%9`, as YCP's `sformat` has them
     Ycp,
+    /// `%1` to `%9`, as Smalltalk's `bindWith:` has them
+    Smalltalk,
 }

@@ -1,6 +1,10 @@
 pub mod PartLemmas
 pub mod PerlLemmas
 pub mod JavaScriptLemmas
+pub mod TclLemmas
+pub mod AwkLemmas
+pub mod LuaLemmas
+pub mod PascalLemmas
 pub mod ScriptDirectiveLemmas
 pub mod AddingLemmas
 pub mod ScriptTextLemmas

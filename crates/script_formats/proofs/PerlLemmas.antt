@@ -1,5 +1,5 @@
 -- What follows a part of a directive of Perl's is no longer than the text.
-use Rattle.std.proofs.Common.{◌≡◌, ℕ, ◌≤◌, List, [], ◌∷◌, length, Option, None, Some, refl, arith, inl, inr, ◌==◌}
+use Rattle.std.proofs.Common.{ℕ, ◌≤◌, List, [], ◌∷◌, length, Option, None, Some, refl, arith, inl, inr, ◌==◌}
 use Rattle.std.specs.Prelude.{codes}
 use Rattle.std.specs.List.{list_any}
 use Rattle.std.specs.Char.{is_ascii_digit}
@@ -12,9 +12,9 @@ use Rattle.numbered_arguments.specs.declared.Size.TheVariants.{Plain}
 use Rattle.numbered_arguments.specs.declared.Request.{Request}
 use Rattle.script_formats.specs.declared.directive.Directive.{Directive}
 use Rattle.script_formats.specs.declared.perl.Front.{Front}
-use Rattle.script_formats.specs.ScriptParts.{argument}
+use Rattle.script_formats.specs.ScriptParts.{argument, is_flag}
 use Rattle.script_formats.specs.PerlDirectives.{star_mark, dot, zero_digit, letter_v, is_first_digit, written, place_of}
-use Rattle.script_formats.specs.PerlDirectives.{place, is_flag, separator, joined_by, joined, vector, star, amount_of}
+use Rattle.script_formats.specs.PerlDirectives.{place, separator, joined_by, joined, vector, star, amount_of}
 use Rattle.script_formats.specs.PerlDirectives.{amount, width, precision, long, size, asked_by, front_of, front, made}
 use Rattle.script_formats.specs.PerlDirectives.{made_if, converted, back, directive}
 use Rattle.script_formats.proofs.PartLemmas.{Within, some_is, behind_within, number_within}

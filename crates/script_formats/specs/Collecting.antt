@@ -5,14 +5,15 @@ use Rattle.numbered_arguments.specs.declared.Request.{Request}
 use Rattle.numbered_arguments.specs.NumberedArguments.{list_of}
 use Rattle.numbered_arguments.specs.NumberingStates.{HasNumbered}
 use Rattle.script_formats.specs.declared.Notation.{Notation}
-use Rattle.script_formats.specs.declared.Notation.TheVariants.{Perl, JavaScript}
+use Rattle.script_formats.specs.declared.Notation.TheVariants.{JavaScript, Tcl, Awk}
 use Rattle.script_formats.specs.declared.directive.Directive.{Directive}
 use Rattle.script_formats.specs.declared.adding.Used.{Used}
 use Rattle.script_formats.specs.declared.adding.Collected.{Collected}
 
 -- what a directive asks for, in this order
 abbrev pub asks : Directive → List Request
-asks d = list_of d.separator ++ list_of d.vector ++ list_of d.width ++ list_of d.precision ++ list_of d.argument
+asks d = list_of d.index ++ list_of d.separator ++ list_of d.vector ++ list_of d.width ++ list_of d.precision
+    ++ list_of d.argument
 
 abbrev pub is_own : Request → Bool
 is_own r = is_some r.number
@@ -22,8 +23,10 @@ is_next r = is_none r.number
 
 -- whether a format may have arguments with numbers of their own, and without
 abbrev pub allows : Notation → Bool → Bool → Bool
-allows Perl own next = true
 allows JavaScript own next = not (own && next)
+allows Tcl own next = not (own && next)
+allows Awk own next = not (own && next)
+allows _ own next = true
 
 -- ---- the code's state
 

@@ -8,23 +8,10 @@ use Rattle.numbered_arguments.specs.declared.Kind.{Kind}
 use Rattle.numbered_arguments.specs.declared.Kind.TheVariants.{Any, Character, Text, Integer, Float}
 use Rattle.numbered_arguments.specs.declared.Size.TheVariants.{Plain}
 use Rattle.script_formats.specs.declared.directive.Directive.{Directive}
-use Rattle.script_formats.specs.ScriptParts.{argument, number_at}
-
-abbrev pub place_of : List ℕ → Option (ℕ × List ℕ) → Option (Option ℕ × List ℕ)
-place_of text None = Some (None, text)
-place_of text (Some found) = if found.0 == 0 then None else Some (Some found.0, found.1)
-
--- a number, which may be left out, and what follows it; None: the number is 0
-abbrev pub place : List ℕ → Option (Option ℕ × List ℕ)
-place text = place_of text (number_at text)
+use Rattle.script_formats.specs.ScriptParts.{argument, printed, place, behind_precision}
 
 abbrev pub is_flag : ℕ → Bool
 is_flag b = list_any (λ flag. b == flag) (codes "-+ 0I")
-
--- what follows a dot and digits, or nothing
-abbrev pub behind_precision : List ℕ → List ℕ
-behind_precision [] = []
-behind_precision (b ∷ more) = if b == 46 then behind is_ascii_digit more else b ∷ more
 
 -- what a conversion asks for; None: there is no such conversion
 abbrev pub asked_by : ℕ → Option (Option Kind)
@@ -39,16 +26,7 @@ asked_by conversion =
 
 abbrev pub made_if : Option ℕ → List ℕ → Option (Option Kind) → Option (Directive × List ℕ)
 made_if number rest None = None
-made_if number rest (Some kind) = Some (
-  record {
-    separator = None;
-    vector = None;
-    width = None;
-    precision = None;
-    argument = argument number kind;
-  },
-  rest,
-)
+made_if number rest (Some kind) = Some (printed None None (argument number kind), rest)
 
 abbrev pub converted : Option ℕ → List ℕ → Option (Directive × List ℕ)
 converted number [] = None

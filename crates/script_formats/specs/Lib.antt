@@ -1,6 +1,11 @@
 pub mod ScriptParts
 pub mod PerlDirectives
 pub mod JavaScriptDirectives
+pub mod TclDirectives
+pub mod AwkDirectives
+pub mod LuaDirectives
+pub mod PascalDirectives
 pub mod ScriptDirectives
 pub mod Collecting
 pub mod ScriptFormat
+pub mod ScriptAgreement

@@ -12,7 +12,7 @@ use Rattle.numbered_arguments.specs.declared.Size.TheVariants.{Plain, Short, Lon
 use Rattle.numbered_arguments.specs.declared.Request.{Request}
 use Rattle.script_formats.specs.declared.directive.Directive.{Directive}
 use Rattle.script_formats.specs.declared.perl.Front.{Front}
-use Rattle.script_formats.specs.ScriptParts.{argument, number_at}
+use Rattle.script_formats.specs.ScriptParts.{argument, number_at, is_flag}
 
 abbrev pub star_mark : ℕ
 star_mark = 42
@@ -47,11 +47,6 @@ place_of text (Some found) = (own found.0, found.1)
 -- a number, which may be left out, and what follows it
 abbrev pub place : List ℕ → Option ℕ × List ℕ
 place text = place_of text (written text)
-
--- ---- "flags"
-
-abbrev pub is_flag : ℕ → Bool
-is_flag b = list_any (λ flag. b == flag) (codes " +-#0")
 
 -- ---- "vector flag": what stands between the numbers, if it is asked for, and what follows
 
@@ -150,6 +145,7 @@ front text = front_of (place text).0 (behind is_flag (place text).1) (vector (be
 -- with a vector flag the argument is a vector, and comes before the width
 abbrev pub made : Front → Option Request → Option Request → Option Kind → Directive
 made front width precision kind = record {
+  index = None;
   separator = front.separator;
   vector = argument front.number (if front.is_vector then Some Vector else None);
   width = width;

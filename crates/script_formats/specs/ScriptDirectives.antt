@@ -3,11 +3,15 @@ use Rattle.std.specs.Prelude.{◌≡◌, ℕ, List, ◌∷◌, Option, Some}
 use Rattle.numbered_arguments.specs.declared.Kind.{Kind}
 use Rattle.numbered_arguments.specs.declared.Request.{Request}
 use Rattle.script_formats.specs.declared.Notation.{Notation}
-use Rattle.script_formats.specs.declared.Notation.TheVariants.{Perl, JavaScript}
+use Rattle.script_formats.specs.declared.Notation.TheVariants.{Perl, JavaScript, Tcl, Awk, Lua, ObjectPascal}
 use Rattle.script_formats.specs.declared.directive.Directive.{Directive}
 use Rattle.script_formats.specs.ScriptParts as parts
 use Rattle.script_formats.specs.PerlDirectives as perl
 use Rattle.script_formats.specs.JavaScriptDirectives as javascript
+use Rattle.script_formats.specs.TclDirectives as tcl
+use Rattle.script_formats.specs.AwkDirectives as awk
+use Rattle.script_formats.specs.LuaDirectives as lua
+use Rattle.script_formats.specs.PascalDirectives as pascal
 
 abbrev pub percent : ℕ
 percent = 37
@@ -15,9 +19,16 @@ percent = 37
 abbrev pub argument : Option ℕ → Option Kind → Option Request
 argument number kind = parts.argument number kind
 
+abbrev pub printed : Option Request → Option Request → Option Request → Directive
+printed width precision asked = parts.printed width precision asked
+
 abbrev pub directive : Notation → List ℕ → Option (Directive × List ℕ)
 directive Perl text = perl.directive text
 directive JavaScript text = javascript.directive text
+directive Tcl text = tcl.directive text
+directive Awk text = awk.directive text
+directive Lua text = lua.directive text
+directive ObjectPascal text = pascal.directive text
 
 -- text is a `%` and this directive, followed by rest
 abbrev pub DirectiveAt : Notation → Directive → List ℕ → List ℕ → Type 0

@@ -33,8 +33,8 @@ impl Used {
         ensures { result ≡ spec.allows notation self.own self.next }
     {
         match notation {
-            Notation::Perl => true,
-            Notation::JavaScript => !(self.own && self.next),
+            Notation::JavaScript | Notation::Tcl | Notation::Awk => !(self.own && self.next),
+            _ => true,
         }
     }
 }
@@ -70,6 +70,7 @@ impl Collected {
     pub(crate) fn add_all(&mut self, directive: Directive) -> Result<(), AllocError>
         ensures { OnOk result (spec.Adds self.old self.new (spec.asks directive)) }
     {
+        self.add(directive.index)?;
         self.add(directive.separator)?;
         self.add(directive.vector)?;
         self.add(directive.width)?;

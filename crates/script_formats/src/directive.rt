@@ -3,12 +3,14 @@ ghost use Rattle.std.specs.Prelude.{◌≡◌, ◌∷◌, ℕ, List, MatchOption
 ghost use Rattle.script_formats.specs.declared.directive.Directive.{Directive as Value};
 ghost use Rattle.script_formats.specs.ScriptDirectives as spec;
 
-use crate::{Notation, javascript, perl};
+use crate::{Notation, awk, javascript, lua, pascal, perl, tcl};
 use numbered_arguments::{Kind, Request};
 
 /// What a directive asks for, in this order.
 #[derive(Clone, Copy)]
 pub(crate) struct Directive {
+    /// what says which argument the conversion takes
+    pub(crate) index: Option<Request>,
     /// what stands between the numbers of a vector
     pub(crate) separator: Option<Request>,
     pub(crate) vector: Option<Request>,
@@ -28,12 +30,34 @@ pub(crate) fn argument(number: Option<u32>, kind: Option<Kind>) -> Option<Reques
     }
 }
 
+/// A directive that asks for a width, a precision and what its conversion does.
+pub(crate) fn printed(
+    width: Option<Request>,
+    precision: Option<Request>,
+    asked: Option<Request>,
+) -> Directive
+    ensures { result ≡ spec.printed width precision asked }
+{
+    Directive {
+        index: None,
+        separator: None,
+        vector: None,
+        width,
+        precision,
+        argument: asked,
+    }
+}
+
 fn read(notation: Notation, text: &[u8]) -> Option<(Directive, &[u8])>
     ensures { option_map (λ found. (found.0, found.1.now)) result ≡ spec.directive notation text.now }
 {
     match notation {
         Notation::Perl => perl::read(text),
         Notation::JavaScript => javascript::read(text),
+        Notation::Tcl => tcl::read(text),
+        Notation::Awk => awk::read(text),
+        Notation::Lua => lua::read(text),
+        Notation::ObjectPascal => pascal::read(text),
     }
 }
 

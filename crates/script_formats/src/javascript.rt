@@ -5,21 +5,10 @@ ghost use Rattle.std.specs.List.{prefix_len};
 ghost use Rattle.format_arguments.specs.Bytes.{behind};
 ghost use Rattle.script_formats.specs.JavaScriptDirectives as spec;
 
-use crate::directive::{Directive, argument};
-use crate::parts::read_number;
+use crate::directive::{Directive, argument, printed};
+use crate::parts::{read_place, skip_precision};
 use byte_text::split_byte;
 use numbered_arguments::{Kind, Size, skip_digits};
-
-/// Reads `m$`, which may be left out. None: m is 0.
-fn read_place(text: &[u8]) -> Option<(Option<u32>, &[u8])>
-    ensures { option_map (λ found. (found.0, found.1.now)) result ≡ spec.place text.now }
-{
-    match read_number(text) {
-        Some((0, _)) => None,
-        Some((number, rest)) => Some((Some(number), rest)),
-        None => Some((None, text)),
-    }
-}
 
 fn flags_len(text: &[u8]) -> usize
     ensures { result ≡ prefix_len spec.is_flag text.now }
@@ -34,16 +23,6 @@ fn skip_flags(text: &[u8]) -> &[u8]
 {
     let (_, rest) = text.split_at(flags_len(text));
     rest
-}
-
-/// Skips a dot and digits, or nothing.
-fn skip_precision(text: &[u8]) -> &[u8]
-    ensures { result.now ≡ spec.behind_precision text.now }
-{
-    match split_byte(text) {
-        Some((b'.', rest)) => skip_digits(rest),
-        _ => text,
-    }
 }
 
 /// What a conversion asks for, if there is such a conversion.
@@ -68,16 +47,7 @@ fn read_back(number: Option<u32>, text: &[u8]) -> Option<(Directive, &[u8])>
     let behind_precision = skip_precision(skip_digits(skip_flags(text)));
     match split_byte(behind_precision) {
         Some((conversion, rest)) => match asked_by(conversion) {
-            Some(kind) => Some((
-                Directive {
-                    separator: None,
-                    vector: None,
-                    width: None,
-                    precision: None,
-                    argument: argument(number, kind),
-                },
-                rest,
-            )),
+            Some(kind) => Some((printed(None, None, argument(number, kind)), rest)),
             None => None,
         },
         None => None,

@@ -1,16 +1,22 @@
-//! Argument lists of formats whose directives are those of C's `printf` with changes of their own: Perl's and
-//! JavaScript's (GNU gettext manual, "Perl Format Strings", "JavaScript Format Strings").
+//! Argument lists of formats whose directives are those of C's `printf` with changes of their own: Perl's, JavaScript's,
+//! Tcl's, awk's, Lua's and Object Pascal's (GNU gettext manual, "Perl Format Strings" and so on).
 #![tactic(auto)]
 
 mod adding;
+mod agreement;
+mod awk;
 mod directive;
 mod format;
 mod javascript;
+mod lua;
 mod parts;
+mod pascal;
 mod perl;
+mod tcl;
 
+pub use agreement::agrees;
 pub use format::{one_signature, signature};
-pub use numbered_arguments::{FormatFault, Kind, Numbered, Size, Strictness, agrees};
+pub use numbered_arguments::{FormatFault, Kind, Numbered, Size, Strictness};
 
 /// A language of formats.
 #[derive(Clone, Copy, Debug, PartialEq, Eq)]
@@ -19,4 +25,12 @@ pub enum Notation {
     Perl,
     /// JavaScript's `String.prototype.format` in GNOME: `javascript-format`
     JavaScript,
+    /// Tcl's `format`: `tcl-format`
+    Tcl,
+    /// awk's `printf`: `awk-format`
+    Awk,
+    /// Lua's `string.format`: `lua-format`
+    Lua,
+    /// Object Pascal's `Format`: `object-pascal-format`
+    ObjectPascal,
 }

@@ -1,12 +1,10 @@
 //! Directives of Perl's `sprintf`, read part by part. Each reader takes the text from where its part may begin, and
 //! returns the part and the rest.
 ghost use Rattle.std.specs.Prelude.{◌≡◌, option_map};
-ghost use Rattle.std.specs.List.{prefix_len};
-ghost use Rattle.format_arguments.specs.Bytes.{behind};
 ghost use Rattle.script_formats.specs.PerlDirectives as spec;
 
 use crate::directive::{Directive, argument};
-use crate::parts::read_number;
+use crate::parts::{read_number, skip_flags};
 use byte_text::split_byte;
 use numbered_arguments::{Kind, Request, Size, skip_digits};
 
@@ -46,21 +44,6 @@ fn read_place(text: &[u8]) -> (Option<u32>, &[u8])
         Some((number, rest)) => (own(number), rest),
         None => (None, text),
     }
-}
-
-fn flags_len(text: &[u8]) -> usize
-    ensures { result ≡ prefix_len spec.is_flag text.now }
-{
-    text.iter()
-        .take_while(|byte| matches!(byte, b' ' | b'+' | b'-' | b'#' | b'0'))
-        .count()
-}
-
-fn skip_flags(text: &[u8]) -> &[u8]
-    ensures { result.now ≡ behind spec.is_flag text.now }
-{
-    let (_, rest) = text.split_at(flags_len(text));
-    rest
 }
 
 /// Reads a `v`, behind a `*` and this number.
@@ -242,6 +225,7 @@ fn directive(
         (None, kind)
     };
     Directive {
+        index: None,
         separator: front.separator,
         vector: argument(front.number, vector),
         width,

@@ -16,9 +16,11 @@ const VALID: &[(Notation, &str, usize)] = &[
     (Notation::QtPlural, "%n %Ln %%n", 3),
     (Notation::Ycp, "%% %%1", 0),
     (Notation::Ycp, "%1 %23 %9", 3),
+    (Notation::Smalltalk, "%% %%1", 0),
+    (Notation::Smalltalk, "%12 %9 %1", 3),
 ];
 
-/// Texts of which it says that they are "not a valid KDE format string" or "YCP format string".
+/// Texts of which it says that they are "not a valid KDE format string", and so on.
 const INVALID: &[(Notation, &str)] = &[
     (Notation::Kde, "%3"),
     (Notation::Kde, "%4 %2"),
@@ -30,6 +32,10 @@ const INVALID: &[(Notation, &str)] = &[
     (Notation::Ycp, "%0"),
     (Notation::Ycp, "%1 %L1"),
     (Notation::Ycp, "%%%"),
+    (Notation::Smalltalk, "%"),
+    (Notation::Smalltalk, "%0"),
+    (Notation::Smalltalk, "%L1"),
+    (Notation::Smalltalk, "%%%"),
 ];
 
 /// An original, a translation, and whether GNU msgfmt 0.21 accepts them: without a plural, and as the first of two
@@ -54,6 +60,9 @@ const PAIRS: &[(Notation, &str, &str, bool, bool)] = &[
     (Notation::Ycp, "%1 %2", "%2 %1", true, true),
     (Notation::Ycp, "%1 %2", "x", false, true),
     (Notation::Ycp, "%1", "%2", false, false),
+    (Notation::Smalltalk, "%1 %2", "%2 %1", true, true),
+    (Notation::Smalltalk, "%1 %2", "%2", false, true),
+    (Notation::Smalltalk, "%1", "%1 %2", false, false),
 ];
 
 fn count(rt: &HostRuntime, notation: Notation, text: &str) -> Option<usize> {
