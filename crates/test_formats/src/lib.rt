@@ -8,6 +8,8 @@ mod brace;
 #[cfg(test)]
 mod checks;
 #[cfg(test)]
+mod csharp;
+#[cfg(test)]
 mod java;
 #[cfg(test)]
 mod macros;
