@@ -37,6 +37,7 @@ OWN_WORDS = {
 # The parts of the GNU gettext manual that are cited, by the names that `info gettext NAME` and its pages have.
 PARTS = (
     "Ambiguities",
+    "C# Format Strings",
     "Contexts",
     "Header Entry",
     "Interface to gettext",
@@ -52,6 +53,7 @@ PARTS = (
     "Plural forms",
     "Python Format Strings",
     "Qt Format Strings",
+    "Ruby Format Strings",
     "Shell Format Strings",
     "The LANGUAGE variable",
     "Triggering",

@@ -8,7 +8,11 @@ mod brace;
 #[cfg(test)]
 mod checks;
 #[cfg(test)]
+mod csharp;
+#[cfg(test)]
 mod java;
+#[cfg(test)]
+mod java_printf;
 #[cfg(test)]
 mod macros;
 #[cfg(test)]

@@ -1,0 +1,2 @@
+pub mod CSharpItemLemmas
+pub mod CSharpTextLemmas

@@ -1,0 +1,15 @@
+-- When the arguments of two composite formats agree: GNU gettext compares how many a call has to pass.
+use Rattle.std.specs.Prelude.{ℕ, ◌+◌, ◌^◌, ◌%◌, nat_lt, Bool, not, ◌==◌, if◌then◌else◌, List}
+use Rattle.std.specs.List.{fold}
+use Rattle.format_arguments.specs.declared.Strictness.{Strictness}
+use Rattle.format_arguments.specs.declared.Strictness.TheVariants.{Same, Lenient}
+use Rattle.numbered_arguments.specs.declared.Numbered.{Numbered}
+
+-- how many arguments a call has to pass, where the first has number 0; GNU gettext counts them modulo 2^32
+abbrev pub passed : List Numbered → ℕ
+passed asked = fold (λ count a. if nat_lt a.number count then count else (a.number + 1) % 2 ^ 32) 0 asked
+
+-- the calls pass as many; leniently, the translation may do with fewer
+abbrev pub agree : List Numbered → List Numbered → Strictness → Bool
+agree original translation Same = passed original == passed translation
+agree original translation Lenient = not (nat_lt (passed original) (passed translation))

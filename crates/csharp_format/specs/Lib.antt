@@ -1,0 +1,3 @@
+pub mod CSharpItems
+pub mod CSharpFormat
+pub mod CSharpAgreement

@@ -1,0 +1,31 @@
+//! When the arguments of a translation agree with those of its original.
+ghost use Rattle.std.specs.Prelude.{◌≡◌};
+ghost use Rattle.csharp_format.specs.CSharpAgreement as spec;
+
+use format_arguments::Strictness;
+use numbered_arguments::Numbered;
+
+/// How many arguments a call has to pass.
+fn passed(asked: &[Numbered]) -> u32
+    ensures { result ≡ spec.passed asked.now }
+{
+    let mut count: u32 = 0;
+    'asked: for argument in asked {
+        if argument.number >= count {
+            count = argument.number.wrapping_add(1);
+        }
+    }
+    count
+}
+
+/// Whether the arguments of a translation agree with those of its original, as strictly as `rule` asks: a call has to
+/// pass as many, or, leniently, no more. An argument that no item asks for counts, too, if one with a larger number is
+/// asked for, since .NET ignores what a format doesn't use.
+pub fn agrees(original: &[Numbered], translation: &[Numbered], rule: Strictness) -> bool
+    ensures { result ≡ spec.agree original.now translation.now rule }
+{
+    match rule {
+        Strictness::Same => passed(original) == passed(translation),
+        Strictness::Lenient => passed(translation) <= passed(original),
+    }
+}
