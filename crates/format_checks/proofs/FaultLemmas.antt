@@ -3,17 +3,20 @@ use Rattle.std.proofs.Common.{◌≡◌, ℕ, ◌+◌, ◌<◌, ◌≤◌, Bool,
 use Rattle.std.proofs.Common.{Option, None}
 use Rattle.std.proofs.Common.{refl, sym, ap, subst, ◌∙◌, append_assoc, inl, inr}
 use Rattle.std.specs.List.{flat_map}
+use Rattle.std.proofs.lemmas.Bool.{cases_Bool}
 use Rattle.std.proofs.lemmas.List.{append-nil, take_more, take_all, flat_map_more}
 use Rattle.format_flags.specs.declared.languages.Language.{Language}
 use Rattle.format_checks.specs.declared.Difference.{Difference}
 use Rattle.format_checks.specs.declared.Fault.{Fault}
 use Rattle.format_arguments.specs.declared.FormatFault.{FormatFault}
-use Rattle.format_arguments.specs.declared.FormatFault.TheVariants.{Invalid}
+use Rattle.format_arguments.specs.declared.FormatFault.TheVariants.{Invalid, Memory}
 use Rattle.format_arguments.specs.declared.Strictness.{Strictness}
-use Rattle.format_flags.specs.declared.languages.Language.TheVariants.{Python, PythonBrace, Shell, Qt, QtPlural, Kde}
-use Rattle.format_flags.specs.declared.languages.Language.TheVariants.{Java, JavaScript, Perl, PerlBrace, Php, Ycp}
+use Rattle.format_flags.specs.declared.languages.Language.TheVariants.{Python, PythonBrace, Shell, PerlBrace}
 use Rattle.format_flags.specs.declared.languages.Language.TheVariants.{ObjectiveC}
-use Rattle.format_checks.specs.FormatLanguages.{Asked, Named, Numbered, Lists, HasFault, IsNoFormat}
+use Rattle.format_arguments.specs.Arguments.{Argument}
+use Rattle.numbered_arguments.specs.declared.Numbered as code_numbered
+use Rattle.format_checks.specs.FormatLanguages.{Asked, Named, Numbered, Lists, HasFault, IsNoFormat, is_named}
+use Rattle.format_checks.specs.FormatLanguages.{ListsNamed, FailsNamed, ListsNumbered, FailsNumbered}
 use Rattle.format_flags.specs.FormatFlags.{has}
 use Rattle.format_checks.specs.FlaggedEntries.{Entry, original, rule_for}
 use Rattle.format_checks.specs.FormatFaults.{Question, question, questions_from, questions, flagged_questions}
@@ -143,69 +146,41 @@ compared_all line e often language form left old now h end = (
 
 -- ---- reading formats
 
-no_python : (text : List ℕ) → HasFault Python text Invalid → (asked : Asked) → Lists Python text asked → ⊥
-no_python text none (Named asked) x = none asked x
-no_python text none (Numbered asked) x = x
+-- formats have arguments of one sort
+never_numbered : (language : Language) (text : List ℕ) (asked : List code_numbered.Numbered)
+    → is_named language ≡ true → ListsNumbered language text asked → ⊥
+never_numbered Python text asked is x = x
+never_numbered PythonBrace text asked is x = x
+never_numbered Shell text asked is x = x
+never_numbered PerlBrace text asked is x = x
+never_numbered _ text asked is x = absurd (cc is)
 
-no_brace : (text : List ℕ) → HasFault PythonBrace text Invalid → (asked : Asked) → Lists PythonBrace text asked → ⊥
-no_brace text none (Named asked) x = none asked x
-no_brace text none (Numbered asked) x = x
+never_named : (language : Language) (text : List ℕ) (asked : List Argument) → is_named language ≡ false
+    → ListsNamed language text asked → ⊥
+never_named Python text asked is x = absurd (cc is)
+never_named PythonBrace text asked is x = absurd (cc is)
+never_named Shell text asked is x = absurd (cc is)
+never_named PerlBrace text asked is x = absurd (cc is)
+never_named _ text asked is x = x
 
-no_php : (text : List ℕ) → HasFault Php text Invalid → (asked : Asked) → Lists Php text asked → ⊥
-no_php text none (Named asked) x = x
-no_php text none (Numbered asked) x = none asked x
+pub no_named : (language : Language) (text : List ℕ) (fault : FormatFault) → is_named language ≡ true
+    → FailsNamed language text fault → HasFault language text fault
+no_named language text Invalid is none (Named asked) x = none asked x
+no_named language text Invalid is none (Numbered asked) x = never_numbered language text asked is x
+no_named language text Memory is none = none
 
-no_shell : (text : List ℕ) → HasFault Shell text Invalid → (asked : Asked) → Lists Shell text asked → ⊥
-no_shell text none (Named asked) x = none asked x
-no_shell text none (Numbered asked) x = x
+pub no_numbered : (language : Language) (text : List ℕ) (fault : FormatFault) → is_named language ≡ false
+    → FailsNumbered language text fault → HasFault language text fault
+no_numbered language text Invalid is none (Named asked) x = never_named language text asked is x
+no_numbered language text Invalid is none (Numbered asked) x = none asked x
+no_numbered language text Memory is none = none
 
-no_java : (text : List ℕ) → HasFault Java text Invalid → (asked : Asked) → Lists Java text asked → ⊥
-no_java text none (Named asked) x = x
-no_java text none (Numbered asked) x = none asked x
-
-no_javascript : (text : List ℕ) → HasFault JavaScript text Invalid → (asked : Asked) → Lists JavaScript text asked → ⊥
-no_javascript text none (Named asked) x = x
-no_javascript text none (Numbered asked) x = none asked x
-
-no_perl : (text : List ℕ) → HasFault Perl text Invalid → (asked : Asked) → Lists Perl text asked → ⊥
-no_perl text none (Named asked) x = x
-no_perl text none (Numbered asked) x = none asked x
-
-no_qt : (text : List ℕ) → HasFault Qt text Invalid → (asked : Asked) → Lists Qt text asked → ⊥
-no_qt text none (Named asked) x = x
-no_qt text none (Numbered asked) x = none asked x
-
-no_qt_plural : (text : List ℕ) → HasFault QtPlural text Invalid → (asked : Asked) → Lists QtPlural text asked → ⊥
-no_qt_plural text none (Named asked) x = x
-no_qt_plural text none (Numbered asked) x = none asked x
-
-no_kde : (text : List ℕ) → HasFault Kde text Invalid → (asked : Asked) → Lists Kde text asked → ⊥
-no_kde text none (Named asked) x = x
-no_kde text none (Numbered asked) x = none asked x
-
-no_perl_brace : (text : List ℕ) → HasFault PerlBrace text Invalid → (asked : Asked) → Lists PerlBrace text asked → ⊥
-no_perl_brace text none (Named asked) x = none asked x
-no_perl_brace text none (Numbered asked) x = x
-
-no_ycp : (text : List ℕ) → HasFault Ycp text Invalid → (asked : Asked) → Lists Ycp text asked → ⊥
-no_ycp text none (Named asked) x = x
-no_ycp text none (Numbered asked) x = none asked x
-
-pub no_format : (language : Language) (text : List ℕ) (fault : FormatFault) → fault ≡ Invalid
-    → HasFault language text fault → IsNoFormat language text
-no_format Python text fault is has = no_python text (rw is at has)
-no_format PythonBrace text fault is has = no_brace text (rw is at has)
-no_format Java text fault is has = no_java text (rw is at has)
-no_format JavaScript text fault is has = no_javascript text (rw is at has)
-no_format Shell text fault is has = no_shell text (rw is at has)
-no_format Qt text fault is has = no_qt text (rw is at has)
-no_format QtPlural text fault is has = no_qt_plural text (rw is at has)
-no_format Kde text fault is has = no_kde text (rw is at has)
-no_format Perl text fault is has = no_perl text (rw is at has)
-no_format PerlBrace text fault is has = no_perl_brace text (rw is at has)
-no_format Php text fault is has = no_php text (rw is at has)
-no_format Ycp text fault is has = no_ycp text (rw is at has)
-no_format _ text fault is has = λ asked none. none
+pub one_sort : (language : Language) (text : List ℕ) (a : List Argument) (b : List code_numbered.Numbered)
+    → ListsNamed language text a → ListsNumbered language text b → ⊥
+one_sort language text a b x y = elim (cases_Bool (is_named language)) [
+  | inl is ↦ never_numbered language text b is y
+  | inr is ↦ never_named language text a is x
+]
 
 pub verdict_of : (e : Entry) (often : List Bool) (language : Language) (form : ℕ) (t text : List ℕ) (rule : Strictness)
     (asked given : Asked) (found : Option Difference) → text ≡ original e → Lists language text asked

@@ -2,7 +2,7 @@
 use Rattle.std.proofs.Common.{◌≡◌, ℕ, Bool, true, false, List, [], ◌∷◌, ◌++◌, Option, None, Some, refl, sym}
 use Rattle.std.proofs.Common.{ap, subst, ◌∙◌}
 use Rattle.std.proofs.Common.{inl, inr}
-use Rattle.std.specs.Prelude.{◌↔◌}
+use Rattle.std.specs.Prelude.{◌↔◌, MatchOption}
 use Rattle.std.specs.List.{AllByRecursion}
 use Rattle.format_arguments.specs.declared.Strictness.{Strictness}
 use Rattle.format_arguments.proofs.TextLemmas.{one_signature}
@@ -20,95 +20,81 @@ use Rattle.php_format.specs.PhpDirectives as php
 use Rattle.php_format.specs.PhpFormat as php_format
 use Rattle.php_format.proofs.PhpDirectiveLemmas as php_lemmas
 use Rattle.format_flags.specs.declared.languages.Language.{Language}
-use Rattle.format_flags.specs.declared.languages.Language.TheVariants.{Python, PythonBrace, Shell, Qt, QtPlural, Kde}
-use Rattle.format_flags.specs.declared.languages.Language.TheVariants.{Java, JavaScript, Perl, PerlBrace, Php, Ycp}
+use Rattle.format_flags.specs.declared.languages.Language.TheVariants.{Python, PythonBrace, Shell, PerlBrace, Php}
+use Rattle.format_flags.specs.declared.languages.Language.TheVariants.{Java, JavaPrintf, CSharp}
 use Rattle.named_formats.specs.declared.Notation.{Notation as Names}
 use Rattle.named_formats.specs.declared.Notation.TheVariants as names
 use Rattle.named_formats.specs.NameDirectives as name_directives
 use Rattle.named_formats.specs.NameFormat as named_formats
 use Rattle.named_formats.proofs.NameDirectiveLemmas as name_lemmas
 use Rattle.numbered_formats.specs.declared.Notation.{Notation as Numbers}
-use Rattle.numbered_formats.specs.declared.Notation.TheVariants as numbers
 use Rattle.numbered_formats.specs.NumberDirectives as number_directives
 use Rattle.numbered_formats.specs.NumberFormat as numbered_formats
 use Rattle.numbered_formats.proofs.NumberDirectiveLemmas as number_lemmas
 use Rattle.script_formats.specs.declared.Notation.{Notation as Scripts}
-use Rattle.script_formats.specs.declared.Notation.TheVariants as scripts
 use Rattle.script_formats.specs.Collecting.{asks as script_asks}
 use Rattle.script_formats.specs.ScriptDirectives as script_directives
 use Rattle.script_formats.specs.ScriptFormat as script_formats
 use Rattle.script_formats.proofs.ScriptDirectiveLemmas as script_lemmas
 use Rattle.java_formats.proofs.ReadingLemmas.{one_list as one_of_java}
+use Rattle.java_printf_format.proofs.PrintfTextLemmas.{one_list as one_of_java_printf}
+use Rattle.csharp_format.proofs.CSharpTextLemmas.{one_list as one_of_csharp}
 use Rattle.format_checks.specs.declared.Difference.{Difference}
 use Rattle.format_checks.specs.declared.Difference.TheVariants.{Invalid, Arguments}
 use Rattle.format_checks.specs.declared.Fault.{Fault}
-use Rattle.format_checks.specs.FormatLanguages.{Asked, Named, Numbered, Lists, agree}
+use Rattle.format_checks.specs.FormatLanguages.{Asked, Named, Numbered, Lists, agree, script_of, number_of}
+use Rattle.format_checks.specs.FormatLanguages.{ListsNamed, ListsOther}
+use Rattle.format_checks.proofs.FaultLemmas.{one_sort}
 use Rattle.format_checks.specs.FormatFaults.{Question, IsDifference, HasVerdict, IsAccepted, fault_of, list_of}
 use Rattle.format_checks.specs.FormatFaults.{AreFaults}
 
-one_named : (notation : Names) (text : List ℕ) (a b : List Argument) → named_formats.HasSignature notation text a
-    → named_formats.HasSignature notation text b → Named a ≡ Named b
-one_named notation text a b x y = ap (λ (asked : List Argument). Named asked)
-    (one_signature (name_directives.mark notation) (name_directives.DirectiveAt notation)
-    (name_lemmas.are_directives notation) brace.asks text a b x y)
+of_names : (notation : Names) (text : List ℕ) (a b : List Argument) → named_formats.HasSignature notation text a
+    → named_formats.HasSignature notation text b → a ≡ b
+of_names notation text a b x y = one_signature (name_directives.mark notation) (name_directives.DirectiveAt notation)
+    (name_lemmas.are_directives notation) brace.asks text a b x y
 
-one_numbered : (notation : Numbers) (text : List ℕ) (a b : List code_numbered.Numbered)
-    → numbered_formats.HasSignature notation text a → numbered_formats.HasSignature notation text b
-    → Numbered a ≡ Numbered b
-one_numbered notation text a b x y = ap (λ (asked : List code_numbered.Numbered). Numbered asked)
-    (one_list_of percent (number_directives.DirectiveAt notation) (number_lemmas.are_directives notation) requests_of
-    (numbered_formats.fits notation) text a b x y)
+one_named : (language : Language) (text : List ℕ) (a b : List Argument) → ListsNamed language text a
+    → ListsNamed language text b → a ≡ b
+one_named Python text a b x y =
+    one_signature percent python.DirectiveAt python_lemmas.are_directives python.asks text a b x y
+one_named PythonBrace text a b x y =
+    one_signature open_brace brace.DirectiveAt brace_lemmas.are_directives brace.asks text a b x y
+one_named Shell text a b x y = of_names names.Shell text a b x y
+one_named PerlBrace text a b x y = of_names names.PerlBrace text a b x y
+one_named _ text a b x y = absurd x
 
-one_of_script : (notation : Scripts) (text : List ℕ) (a b : List code_numbered.Numbered)
-    → script_formats.HasSignature notation text a → script_formats.HasSignature notation text b
-    → Numbered a ≡ Numbered b
-one_of_script notation text a b x y = ap (λ (asked : List code_numbered.Numbered). Numbered asked)
-    (one_list_of script_directives.percent (script_directives.DirectiveAt notation)
-    (script_lemmas.are_directives notation) script_asks (script_formats.fits notation) text a b x y)
+one_other : (language : Language) (text : List ℕ) (a b : List code_numbered.Numbered) → ListsOther language text a
+    → ListsOther language text b → a ≡ b
+one_other Java text a b x y = one_of_java text a b x y
+one_other JavaPrintf text a b x y = one_of_java_printf text a b x y
+one_other CSharp text a b x y = one_of_csharp text a b x y
+one_other Php text a b x y =
+    one_list_of percent php.DirectiveAt php_lemmas.are_directives requests_of php_format.fits text a b x y
+one_other _ text a b x y = absurd x
+
+-- by the notation of the language, if it has one in script_formats or in numbered_formats
+one_by : (script : Option Scripts) (number : Option Numbers) (language : Language) (text : List ℕ)
+    (a b : List code_numbered.Numbered)
+    → MatchOption script (MatchOption number (ListsOther language text a) (λ n. numbered_formats.HasSignature n text a))
+    (λ n. script_formats.HasSignature n text a)
+    → MatchOption script (MatchOption number (ListsOther language text b) (λ n. numbered_formats.HasSignature n text b))
+    (λ n. script_formats.HasSignature n text b) → a ≡ b
+one_by (Some notation) number language text a b x y = one_list_of script_directives.percent
+    (script_directives.DirectiveAt notation) (script_lemmas.are_directives notation) script_asks
+    (script_formats.fits notation) text a b x y
+one_by None (Some notation) language text a b x y = one_list_of percent (number_directives.DirectiveAt notation)
+    (number_lemmas.are_directives notation) requests_of (numbered_formats.fits notation) text a b x y
+one_by None None language text a b x y = one_other language text a b x y
 
 one_arguments : (language : Language) (text : List ℕ) (a b : Asked) → Lists language text a
     → Lists language text b → a ≡ b
-one_arguments Python text (Named a) (Named b) x y = ap (λ (asked : List Argument). Named asked)
-    (one_signature percent python.DirectiveAt python_lemmas.are_directives python.asks text a b x y)
-one_arguments Python text (Named a) (Numbered b) x y = absurd y
-one_arguments Python text (Numbered a) b x y = absurd x
-one_arguments PythonBrace text (Named a) (Named b) x y = ap (λ (asked : List Argument). Named asked)
-    (one_signature open_brace brace.DirectiveAt brace_lemmas.are_directives brace.asks text a b x y)
-one_arguments PythonBrace text (Named a) (Numbered b) x y = absurd y
-one_arguments PythonBrace text (Numbered a) b x y = absurd x
-one_arguments Php text (Numbered a) (Numbered b) x y = ap (λ (asked : List code_numbered.Numbered). Numbered asked)
-    (one_list_of percent php.DirectiveAt php_lemmas.are_directives requests_of php_format.fits text a b x y)
-one_arguments Php text (Numbered a) (Named b) x y = absurd y
-one_arguments Php text (Named a) b x y = absurd x
-one_arguments Java text (Numbered a) (Numbered b) x y = ap (λ (asked : List code_numbered.Numbered). Numbered asked)
-    (one_of_java text a b x y)
-one_arguments Java text (Numbered a) (Named b) x y = absurd y
-one_arguments Java text (Named a) b x y = absurd x
-one_arguments JavaScript text (Numbered a) (Numbered b) x y = one_of_script scripts.JavaScript text a b x y
-one_arguments JavaScript text (Numbered a) (Named b) x y = absurd y
-one_arguments JavaScript text (Named a) b x y = absurd x
-one_arguments Perl text (Numbered a) (Numbered b) x y = one_of_script scripts.Perl text a b x y
-one_arguments Perl text (Numbered a) (Named b) x y = absurd y
-one_arguments Perl text (Named a) b x y = absurd x
-one_arguments Shell text (Named a) (Named b) x y = one_named names.Shell text a b x y
-one_arguments Shell text (Named a) (Numbered b) x y = absurd y
-one_arguments Shell text (Numbered a) b x y = absurd x
-one_arguments Qt text (Numbered a) (Numbered b) x y = one_numbered numbers.Qt text a b x y
-one_arguments Qt text (Numbered a) (Named b) x y = absurd y
-one_arguments Qt text (Named a) b x y = absurd x
-one_arguments QtPlural text (Numbered a) (Numbered b) x y = one_numbered numbers.QtPlural text a b x y
-one_arguments QtPlural text (Numbered a) (Named b) x y = absurd y
-one_arguments QtPlural text (Named a) b x y = absurd x
-one_arguments Kde text (Numbered a) (Numbered b) x y = one_numbered numbers.Kde text a b x y
-one_arguments Kde text (Numbered a) (Named b) x y = absurd y
-one_arguments Kde text (Named a) b x y = absurd x
-one_arguments PerlBrace text (Named a) (Named b) x y = one_named names.PerlBrace text a b x y
-one_arguments PerlBrace text (Named a) (Numbered b) x y = absurd y
-one_arguments PerlBrace text (Numbered a) b x y = absurd x
-one_arguments Ycp text (Numbered a) (Numbered b) x y = one_numbered numbers.Ycp text a b x y
-one_arguments Ycp text (Numbered a) (Named b) x y = absurd y
-one_arguments Ycp text (Named a) b x y = absurd x
-one_arguments _ text a b x y = absurd x
+one_arguments language text (Named a) (Named b) x y =
+    ap (λ (asked : List Argument). Named asked) (one_named language text a b x y)
+one_arguments language text (Named a) (Numbered b) x y = absurd (one_sort language text a b x y)
+one_arguments language text (Numbered a) (Named b) x y = absurd (one_sort language text b a y x)
+one_arguments language text (Numbered a) (Numbered b) x y =
+    ap (λ (asked : List code_numbered.Numbered). Numbered asked)
+    (one_by (script_of language) (number_of language) language text a b x y)
 
 same_agreement : (language : Language) (rule : Strictness) (form : List ℕ) (original a b : Asked) (x y : Bool)
     → Lists language form a → Lists language form b → agree language original a rule ≡ x

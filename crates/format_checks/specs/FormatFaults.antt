@@ -4,8 +4,10 @@ use Rattle.std.specs.Prelude.{None, Some}
 use Rattle.std.specs.List.{flat_map}
 use Rattle.format_arguments.specs.declared.Strictness.{Strictness}
 use Rattle.format_flags.specs.declared.languages.Language.{Language}
-use Rattle.format_flags.specs.declared.languages.Language.TheVariants.{Python, PythonBrace, Shell, Qt, QtPlural, Kde}
-use Rattle.format_flags.specs.declared.languages.Language.TheVariants.{Java, JavaScript, Perl, PerlBrace, Php, Ycp}
+use Rattle.format_flags.specs.declared.languages.Language.TheVariants.{Python, PythonBrace, Java, JavaPrintf, CSharp}
+use Rattle.format_flags.specs.declared.languages.Language.TheVariants.{JavaScript, Shell, Awk, Lua, ObjectPascal}
+use Rattle.format_flags.specs.declared.languages.Language.TheVariants.{Smalltalk, Qt, QtPlural, Kde, Tcl, Perl}
+use Rattle.format_flags.specs.declared.languages.Language.TheVariants.{PerlBrace, Php, Ycp}
 use Rattle.format_checks.specs.declared.Difference.{Difference}
 use Rattle.format_checks.specs.declared.Difference.TheVariants.{Invalid, Arguments}
 use Rattle.format_checks.specs.declared.Fault.{Fault}
@@ -48,7 +50,8 @@ flagged_questions e often language = if has e.flags language then questions e of
 -- the languages whose formats are checked
 abbrev pub checked : List Language
 checked =
-    Python ∷ PythonBrace ∷ Java ∷ JavaScript ∷ Shell ∷ Qt ∷ QtPlural ∷ Kde ∷ Perl ∷ PerlBrace ∷ Php ∷ Ycp ∷ []
+    Python ∷ PythonBrace ∷ Java ∷ JavaPrintf ∷ CSharp ∷ JavaScript ∷ Shell ∷ Awk ∷ Lua ∷ ObjectPascal ∷ Smalltalk ∷ Qt
+    ∷ QtPlural ∷ Kde ∷ Tcl ∷ Perl ∷ PerlBrace ∷ Php ∷ Ycp ∷ []
 
 -- those of each language that the entry is flagged with
 abbrev pub all_questions : Entry → List Bool → List Question

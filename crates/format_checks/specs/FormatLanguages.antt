@@ -1,27 +1,116 @@
 -- Formats of each language: their arguments, and when two formats agree.
-use Rattle.std.specs.Prelude.{◌≡◌, ℕ, Bool, false, List}
+use Rattle.std.specs.Prelude.{◌≡◌, ℕ, Bool, true, false, List, Option, Some, None, MatchOption}
+use Rattle.std.specs.Option.{option_map_or}
 use Rattle.format_arguments.specs.declared.FormatFault.{FormatFault}
-use Rattle.format_arguments.specs.declared.FormatFault.TheVariants.{Invalid}
+use Rattle.format_arguments.specs.declared.FormatFault.TheVariants.{Invalid, Memory}
 use Rattle.format_arguments.specs.declared.Strictness.{Strictness}
 use Rattle.format_arguments.specs.Arguments as arguments
 use Rattle.format_arguments.specs.Arguments.{Argument}
 use Rattle.numbered_arguments.specs.declared.Numbered as code_numbered
 use Rattle.numbered_arguments.specs.NumberedArguments as numbered_arguments
+use Rattle.format_flags.specs.declared.languages.Language.{Language}
+use Rattle.format_flags.specs.declared.languages.Language.TheVariants.{Python, PythonBrace, Java, JavaPrintf, CSharp}
+use Rattle.format_flags.specs.declared.languages.Language.TheVariants.{JavaScript, Shell, Awk, Lua, ObjectPascal}
+use Rattle.format_flags.specs.declared.languages.Language.TheVariants.{Smalltalk, Qt, QtPlural, Kde, Tcl, Perl}
+use Rattle.format_flags.specs.declared.languages.Language.TheVariants.{PerlBrace, Php, Ycp}
 use Rattle.python_format.specs.Format as python
 use Rattle.python_brace_format.specs.BraceFormat as brace
 use Rattle.python_brace_format.specs.BraceAgreement as brace_agreement
 use Rattle.php_format.specs.PhpFormat as php
-use Rattle.format_flags.specs.declared.languages.Language.{Language}
-use Rattle.format_flags.specs.declared.languages.Language.TheVariants.{Python, PythonBrace, Shell, Qt, QtPlural, Kde}
-use Rattle.format_flags.specs.declared.languages.Language.TheVariants.{Java, JavaScript, Perl, PerlBrace, Php, Ycp}
 use Rattle.named_formats.specs.declared.Notation.TheVariants as names
 use Rattle.named_formats.specs.NameFormat as named_formats
+use Rattle.numbered_formats.specs.declared.Notation.{Notation as NumberNotation}
 use Rattle.numbered_formats.specs.declared.Notation.TheVariants as numbers
 use Rattle.numbered_formats.specs.NumberFormat as numbered_formats
 use Rattle.numbered_formats.specs.NumberAgreement as number_agreement
+use Rattle.script_formats.specs.declared.Notation.{Notation as ScriptNotation}
 use Rattle.script_formats.specs.declared.Notation.TheVariants as scripts
 use Rattle.script_formats.specs.ScriptFormat as script_formats
+use Rattle.script_formats.specs.ScriptAgreement as script_agreement
 use Rattle.java_formats.specs.JavaFormat as java_formats
+use Rattle.java_printf_format.specs.PrintfFormat as java_printf
+use Rattle.csharp_format.specs.CSharpFormat as csharp
+use Rattle.csharp_format.specs.CSharpAgreement as csharp_agreement
+
+-- ---- arguments with names, or in the order of the text
+
+-- the text is a format of the language that asks for these arguments
+abbrev pub ListsNamed : Language → List ℕ → List Argument → Type 0
+ListsNamed Python text asked = python.HasSignature text asked
+ListsNamed PythonBrace text asked = brace.HasSignature text asked
+ListsNamed Shell text asked = named_formats.HasSignature names.Shell text asked
+ListsNamed PerlBrace text asked = named_formats.HasSignature names.PerlBrace text asked
+ListsNamed _ text asked = ⊥
+
+-- it has this fault; Memory says nothing about the text
+abbrev pub FailsNamed : Language → List ℕ → FormatFault → Type 0
+FailsNamed language text Invalid = (asked : List Argument) → ¬ ListsNamed language text asked
+FailsNamed language text Memory = Unit {0}
+
+abbrev pub named_agree : Language → List Argument → List Argument → Strictness → Bool
+named_agree PythonBrace original translation rule = brace_agreement.agree original translation rule
+named_agree PerlBrace original translation rule = named_formats.agree names.PerlBrace original translation rule
+named_agree _ original translation rule = arguments.agree original translation rule
+
+-- ---- arguments with numbers
+
+-- a language of script_formats
+abbrev pub script_of : Language → Option ScriptNotation
+script_of JavaScript = Some scripts.JavaScript
+script_of Awk = Some scripts.Awk
+script_of Lua = Some scripts.Lua
+script_of ObjectPascal = Some scripts.ObjectPascal
+script_of Tcl = Some scripts.Tcl
+script_of Perl = Some scripts.Perl
+script_of _ = None
+
+-- a language of numbered_formats
+abbrev pub number_of : Language → Option NumberNotation
+number_of Smalltalk = Some numbers.Smalltalk
+number_of Qt = Some numbers.Qt
+number_of QtPlural = Some numbers.QtPlural
+number_of Kde = Some numbers.Kde
+number_of Ycp = Some numbers.Ycp
+number_of _ = None
+
+-- another language
+abbrev pub ListsOther : Language → List ℕ → List code_numbered.Numbered → Type 0
+ListsOther Java text asked = java_formats.HasSignature text asked
+ListsOther JavaPrintf text asked = java_printf.HasSignature text asked
+ListsOther CSharp text asked = csharp.HasSignature text asked
+ListsOther Php text asked = php.HasSignature text asked
+ListsOther _ text asked = ⊥
+
+-- the text is a format of the language that asks for these arguments
+abbrev pub ListsNumbered : Language → List ℕ → List code_numbered.Numbered → Type 0
+ListsNumbered language text asked = MatchOption (script_of language)
+    (MatchOption (number_of language) (ListsOther language text asked)
+    (λ notation. numbered_formats.HasSignature notation text asked))
+    (λ notation. script_formats.HasSignature notation text asked)
+
+abbrev pub FailsNumbered : Language → List ℕ → FormatFault → Type 0
+FailsNumbered language text Invalid = (asked : List code_numbered.Numbered) → ¬ ListsNumbered language text asked
+FailsNumbered language text Memory = Unit {0}
+
+abbrev pub others_agree : Language → List code_numbered.Numbered → List code_numbered.Numbered → Strictness → Bool
+others_agree CSharp original translation rule = csharp_agreement.agree original translation rule
+others_agree _ original translation rule = numbered_arguments.agree original translation rule
+
+abbrev pub numbered_agree : Language → List code_numbered.Numbered → List code_numbered.Numbered → Strictness → Bool
+numbered_agree language original translation rule =
+    option_map_or (λ notation. script_agreement.agree notation original translation rule) (script_of language)
+    (option_map_or (λ notation. number_agreement.agree notation original translation rule) (number_of language)
+    (others_agree language original translation rule))
+
+-- ---- both
+
+-- whether the arguments of the language's formats have names, or the order of the text
+abbrev pub is_named : Language → Bool
+is_named Python = true
+is_named PythonBrace = true
+is_named Shell = true
+is_named PerlBrace = true
+is_named _ = false
 
 -- the arguments of a format: by their names or in the order of the text, or by their numbers
 pub data Asked : Type 0 where
@@ -31,47 +120,15 @@ pub data Asked : Type 0 where
 -- the text is a format of the language that asks for these arguments; of languages that aren't checked yet there are no
 -- formats
 abbrev pub Lists : Language → List ℕ → Asked → Type 0
-Lists Python text (Named asked) = python.HasSignature text asked
-Lists PythonBrace text (Named asked) = brace.HasSignature text asked
-Lists Java text (Numbered asked) = java_formats.HasSignature text asked
-Lists JavaScript text (Numbered asked) = script_formats.HasSignature scripts.JavaScript text asked
-Lists Shell text (Named asked) = named_formats.HasSignature names.Shell text asked
-Lists Qt text (Numbered asked) = numbered_formats.HasSignature numbers.Qt text asked
-Lists QtPlural text (Numbered asked) = numbered_formats.HasSignature numbers.QtPlural text asked
-Lists Kde text (Numbered asked) = numbered_formats.HasSignature numbers.Kde text asked
-Lists Perl text (Numbered asked) = script_formats.HasSignature scripts.Perl text asked
-Lists PerlBrace text (Named asked) = named_formats.HasSignature names.PerlBrace text asked
-Lists Php text (Numbered asked) = php.HasSignature text asked
-Lists Ycp text (Numbered asked) = numbered_formats.HasSignature numbers.Ycp text asked
-Lists _ text asked = ⊥
+Lists language text (Named asked) = ListsNamed language text asked
+Lists language text (Numbered asked) = ListsNumbered language text asked
 
 abbrev pub HasFault : Language → List ℕ → FormatFault → Type 0
-HasFault Python text fault = python.HasFault text fault
-HasFault PythonBrace text fault = brace.HasFault text fault
-HasFault Java text fault = java_formats.HasFault text fault
-HasFault JavaScript text fault = script_formats.HasFault scripts.JavaScript text fault
-HasFault Shell text fault = named_formats.HasFault names.Shell text fault
-HasFault Qt text fault = numbered_formats.HasFault numbers.Qt text fault
-HasFault QtPlural text fault = numbered_formats.HasFault numbers.QtPlural text fault
-HasFault Kde text fault = numbered_formats.HasFault numbers.Kde text fault
-HasFault Perl text fault = script_formats.HasFault scripts.Perl text fault
-HasFault PerlBrace text fault = named_formats.HasFault names.PerlBrace text fault
-HasFault Php text fault = php.HasFault text fault
-HasFault Ycp text fault = numbered_formats.HasFault numbers.Ycp text fault
-HasFault _ text fault = fault ≡ Invalid
+HasFault language text Invalid = (asked : Asked) → ¬ Lists language text asked
+HasFault language text Memory = Unit {0}
 
 abbrev pub IsNoFormat : Language → List ℕ → Type 0
-IsNoFormat language text = (asked : Asked) → ¬ Lists language text asked
-
-abbrev pub named_agree : Language → List Argument → List Argument → Strictness → Bool
-named_agree PythonBrace original translation rule = brace_agreement.agree original translation rule
-named_agree PerlBrace original translation rule = named_formats.agree names.PerlBrace original translation rule
-named_agree _ original translation rule = arguments.agree original translation rule
-
-abbrev pub numbered_agree : Language → List code_numbered.Numbered → List code_numbered.Numbered → Strictness → Bool
-numbered_agree Qt original translation rule = number_agreement.agree numbers.Qt original translation rule
-numbered_agree Kde original translation rule = number_agreement.agree numbers.Kde original translation rule
-numbered_agree _ original translation rule = numbered_arguments.agree original translation rule
+IsNoFormat language text = HasFault language text Invalid
 
 abbrev pub agree : Language → Asked → Asked → Strictness → Bool
 agree language (Named original) (Named translation) rule = named_agree language original translation rule

@@ -21,41 +21,95 @@ pub(crate) enum Asked<'a> {
     Numbered(Vec<Numbered>),
 }
 
+/// Whether the arguments of a language's formats have names, or the order of the text.
+fn is_named(language: Language) -> bool
+    ensures { result ≡ spec.is_named language }
+{
+    matches!(
+        language,
+        Language::Python | Language::PythonBrace | Language::Shell | Language::PerlBrace
+    )
+}
+
+/// The arguments of a format with names.
+fn named_arguments(
+    alloc: Global,
+    language: Language,
+    text: &[u8],
+) -> Result<Vec<Argument<'_>>, FormatFault>
+    ensures ok { IfOk result (λ asked. spec.ListsNamed language text.now (map argument_view asked.items)) }
+    ensures err { IfErr result (λ fault. spec.FailsNamed language text.now fault) }
+{
+    match language {
+        Language::Python => python_format::signature(alloc, text),
+        Language::PythonBrace => python_brace_format::signature(alloc, text),
+        Language::Shell => named_formats::signature(alloc, Names::Shell, text),
+        Language::PerlBrace => named_formats::signature(alloc, Names::PerlBrace, text),
+        _ => Err(FormatFault::Invalid),
+    }
+}
+
+fn script_of(language: Language) -> Option<Scripts>
+    ensures { result ≡ spec.script_of language }
+{
+    match language {
+        Language::JavaScript => Some(Scripts::JavaScript),
+        Language::Awk => Some(Scripts::Awk),
+        Language::Lua => Some(Scripts::Lua),
+        Language::ObjectPascal => Some(Scripts::ObjectPascal),
+        Language::Tcl => Some(Scripts::Tcl),
+        Language::Perl => Some(Scripts::Perl),
+        _ => None,
+    }
+}
+
+fn number_of(language: Language) -> Option<Numbers>
+    ensures { result ≡ spec.number_of language }
+{
+    match language {
+        Language::Smalltalk => Some(Numbers::Smalltalk),
+        Language::Qt => Some(Numbers::Qt),
+        Language::QtPlural => Some(Numbers::QtPlural),
+        Language::Kde => Some(Numbers::Kde),
+        Language::Ycp => Some(Numbers::Ycp),
+        _ => None,
+    }
+}
+
+/// The arguments of a format with numbers.
+#[tactic(auto, unfolding(crate::specs::FormatLanguages::ListsNumbered))]
+fn numbered_arguments(
+    alloc: Global,
+    language: Language,
+    text: &[u8],
+) -> Result<Vec<Numbered>, FormatFault>
+    ensures ok { IfOk result (λ asked. spec.ListsNumbered language text.now asked.items) }
+    ensures err { IfErr result (λ fault. spec.FailsNumbered language text.now fault) }
+{
+    if let Some(notation) = script_of(language) {
+        return script_formats::signature(alloc, notation, text);
+    }
+    if let Some(notation) = number_of(language) {
+        return numbered_formats::signature(alloc, notation, text);
+    }
+    match language {
+        Language::Java => java_formats::signature(alloc, text),
+        Language::JavaPrintf => java_printf_format::signature(alloc, text),
+        Language::CSharp => csharp_format::signature(alloc, text),
+        Language::Php => php_format::signature(alloc, text),
+        _ => Err(FormatFault::Invalid),
+    }
+}
+
 /// The arguments of a format of the language. No text is a format of a language that isn't checked yet.
 fn signature(alloc: Global, language: Language, text: &[u8]) -> Result<Asked<'_>, FormatFault>
     ensures ok { IfOk result (λ asked. spec.Lists language text.now (asked_view asked)) }
     ensures err { IfErr result (λ fault. spec.HasFault language text.now fault) }
 {
-    match language {
-        Language::Python => Ok(Asked::Named(python_format::signature(alloc, text)?)),
-        Language::PythonBrace => Ok(Asked::Named(python_brace_format::signature(alloc, text)?)),
-        Language::Java => Ok(Asked::Numbered(java_formats::signature(alloc, text)?)),
-        Language::JavaScript => {
-            Ok(Asked::Numbered(script_formats::signature(alloc, Scripts::JavaScript, text)?))
-        }
-        Language::Shell => {
-            Ok(Asked::Named(named_formats::signature(alloc, Names::Shell, text)?))
-        }
-        Language::Qt => {
-            Ok(Asked::Numbered(numbered_formats::signature(alloc, Numbers::Qt, text)?))
-        }
-        Language::QtPlural => {
-            Ok(Asked::Numbered(numbered_formats::signature(alloc, Numbers::QtPlural, text)?))
-        }
-        Language::Kde => {
-            Ok(Asked::Numbered(numbered_formats::signature(alloc, Numbers::Kde, text)?))
-        }
-        Language::Perl => {
-            Ok(Asked::Numbered(script_formats::signature(alloc, Scripts::Perl, text)?))
-        }
-        Language::PerlBrace => {
-            Ok(Asked::Named(named_formats::signature(alloc, Names::PerlBrace, text)?))
-        }
-        Language::Php => Ok(Asked::Numbered(php_format::signature(alloc, text)?)),
-        Language::Ycp => {
-            Ok(Asked::Numbered(numbered_formats::signature(alloc, Numbers::Ycp, text)?))
-        }
-        _ => Err(FormatFault::Invalid),
+    if is_named(language) {
+        Ok(Asked::Named(named_arguments(alloc, language, text)?))
+    } else {
+        Ok(Asked::Numbered(numbered_arguments(alloc, language, text)?))
     }
 }
 
@@ -104,9 +158,14 @@ fn numbered_agree(
     ensures { IfOk result (λ agree. agree
         ≡ spec.numbered_agree language original.now translation.now rule) }
 {
+    if let Some(notation) = script_of(language) {
+        return script_formats::agrees(alloc, notation, original, translation, rule);
+    }
+    if let Some(notation) = number_of(language) {
+        return numbered_formats::agrees(alloc, notation, original, translation, rule);
+    }
     match language {
-        Language::Qt => numbered_formats::agrees(alloc, Numbers::Qt, original, translation, rule),
-        Language::Kde => numbered_formats::agrees(alloc, Numbers::Kde, original, translation, rule),
+        Language::CSharp => Ok(csharp_format::agrees(original, translation, rule)),
         _ => numbered_arguments::agrees(alloc, original, translation, rule),
     }
 }
