@@ -1,6 +1,6 @@
 -- Directives that name an argument by its number (GNU gettext manual, "Qt Format Strings", "KDE Format Strings", "YCP
--- Format Strings", "Smalltalk Format Strings"; Qt's reference, "QString::arg" and "Writing Source Code for Translation";
--- KDE's "Programmer's Guide for ki18n"; GNU Smalltalk's reference, CharArray, `bindWith:`).
+-- Format Strings", "Smalltalk Format Strings"; Qt's reference, "QString::arg" and "Writing Source Code for
+-- Translation"; KDE's "Programmer's Guide for ki18n"; GNU Smalltalk's reference, CharArray, `bindWith:`).
 use Rattle.std.specs.Prelude.{◌≡◌, ℕ, ◌+◌, ◌-◌, ◌*◌, Bool, not, ◌&&◌, ◌==◌, if◌then◌else◌, List, [], ◌∷◌, Option}
 use Rattle.std.specs.Prelude.{None, Some}
 use Rattle.std.specs.Char.{is_ascii_digit}

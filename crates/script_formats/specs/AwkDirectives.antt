@@ -1,5 +1,5 @@
 -- Directives of awk's `printf`, from behind the `%` (GNU gettext manual, "awk Format Strings"; POSIX, "awk", "Output
--- Statements"; GNU awk manual, "Format-Control Letters" and "Format Modifiers").
+-- Statements"; GNU awk's manual: "Format-Control Letters", "Format Modifiers").
 use Rattle.std.specs.Prelude.{ℕ, ◌==◌, if◌then◌else◌, List, [], ◌∷◌, Option, None, Some, codes}
 use Rattle.std.specs.List.{list_any}
 use Rattle.std.specs.Char.{is_ascii_digit}

@@ -1,4 +1,5 @@
--- Directives of Tcl's `format`, from behind the `%` (GNU gettext manual, "Tcl Format Strings"; Tcl's manual, format(n)).
+-- Directives of Tcl's `format`, from behind the `%` (GNU gettext manual, "Tcl Format Strings"; Tcl's manual page
+-- format(n)).
 use Rattle.std.specs.Prelude.{ℕ, ◌==◌, if◌then◌else◌, List, [], ◌∷◌, Option, None, Some, codes}
 use Rattle.std.specs.List.{list_any}
 use Rattle.format_arguments.specs.Bytes.{behind}

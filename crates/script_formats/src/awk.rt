@@ -38,28 +38,14 @@ fn asked_by(conversion: u8) -> Option<Option<Kind>>
     ensures { result ≡ spec.asked_by conversion }
 {
     match conversion {
-        b'%' => Some(None),
-        b'c' => Some(Some(Kind::Character)),
-        b's' => Some(Some(Kind::Text)),
         b'd' | b'i' => Some(Some(Kind::Integer(Size::Plain))),
         b'u' | b'o' | b'x' | b'X' => Some(Some(Kind::Unsigned(Size::Plain))),
         b'e' | b'E' | b'f' | b'g' | b'G' => Some(Some(Kind::Float(Size::Plain))),
+        b'c' => Some(Some(Kind::Character)),
+        b's' => Some(Some(Kind::Text)),
+        b'%' => Some(None),
         _ => None,
     }
-}
-
-/// Reads what stands behind the precision.
-fn read_conversion(
-    number: Option<u32>,
-    width: Option<Request>,
-    precision: Option<Request>,
-    text: &[u8],
-) -> Option<(Directive, &[u8])>
-    ensures { option_map (λ found. (found.0, found.1.now)) result ≡ spec.converted number width precision text.now }
-{
-    let (conversion, rest) = split_byte(text)?;
-    let kind = asked_by(conversion)?;
-    Some((printed(width, precision, argument(number, kind)), rest))
 }
 
 /// Reads a directive, from after its `%`.
@@ -69,5 +55,7 @@ pub(crate) fn read(text: &[u8]) -> Option<(Directive, &[u8])>
     let (number, behind_number) = read_place(text)?;
     let (width, behind_width) = read_amount(skip_flags(behind_number))?;
     let (precision, behind_precision) = read_precision(behind_width)?;
-    read_conversion(number, width, precision, behind_precision)
+    let (conversion, rest) = split_byte(behind_precision)?;
+    let kind = asked_by(conversion)?;
+    Some((printed(width, precision, argument(number, kind)), rest))
 }

@@ -28,8 +28,8 @@ fn fits(
 
 /// The arguments that a format asks for, in the order of the text; a number may come more than once.
 ///
-/// `Invalid` means that a directive can't be read, that one number has two kinds, or that a format of JavaScript, Tcl or
-/// awk has arguments with numbers and without. `Memory` is returned only if an allocation fails.
+/// `Invalid` means that a directive can't be read, that one number has two kinds, or that a format of JavaScript, Tcl
+/// or awk has arguments with numbers and without. `Memory` is returned only if an allocation fails.
 pub fn signature(
     alloc: Global,
     notation: Notation,

@@ -45,21 +45,15 @@ fn read_back(number: Option<u32>, text: &[u8]) -> Option<(Directive, &[u8])>
     ensures { option_map (λ found. (found.0, found.1.now)) result ≡ spec.back number text.now }
 {
     let behind_precision = skip_precision(skip_digits(skip_flags(text)));
-    match split_byte(behind_precision) {
-        Some((conversion, rest)) => match asked_by(conversion) {
-            Some(kind) => Some((printed(None, None, argument(number, kind)), rest)),
-            None => None,
-        },
-        None => None,
-    }
+    let (conversion, rest) = split_byte(behind_precision)?;
+    let kind = asked_by(conversion)?;
+    Some((printed(None, None, argument(number, kind)), rest))
 }
 
 /// Reads a directive, from after its `%`.
 pub(crate) fn read(text: &[u8]) -> Option<(Directive, &[u8])>
     ensures { option_map (λ found. (found.0, found.1.now)) result ≡ spec.directive text.now }
 {
-    match read_place(text) {
-        Some((number, rest)) => read_back(number, rest),
-        None => None,
-    }
+    let (number, rest) = read_place(text)?;
+    read_back(number, rest)
 }

@@ -1,5 +1,5 @@
-//! Argument lists of formats whose directives are those of C's `printf` with changes of their own: Perl's, JavaScript's,
-//! Tcl's, awk's, Lua's and Object Pascal's (GNU gettext manual, "Perl Format Strings" and so on).
+//! Argument lists of formats whose directives are those of C's `printf` with changes of their own: Perl's,
+//! JavaScript's, Tcl's, awk's, Lua's and Object Pascal's (GNU gettext manual, "Perl Format Strings" and so on).
 #![tactic(auto)]
 
 mod adding;
@@ -17,6 +17,7 @@ mod tcl;
 pub use agreement::agrees;
 pub use format::{one_signature, signature};
 pub use numbered_arguments::{FormatFault, Kind, Numbered, Size, Strictness};
+pub use parts::{read_place, skip_precision};
 
 /// A language of formats.
 #[derive(Clone, Copy, Debug, PartialEq, Eq)]

@@ -30,8 +30,8 @@ pub(crate) fn read_number(text: &[u8]) -> Option<(u32, &[u8])>
     }
 }
 
-/// Reads `m$`, which may be left out. None: m is 0.
-pub(crate) fn read_place(text: &[u8]) -> Option<(Option<u32>, &[u8])>
+/// Reads `m$`, which may be left out: the number, and what follows. None: m is 0, modulo 2^32.
+pub fn read_place(text: &[u8]) -> Option<(Option<u32>, &[u8])>
     ensures { option_map (λ found. (found.0, found.1.now)) result ≡ spec.place text.now }
 {
     match read_number(text) {
@@ -76,7 +76,7 @@ pub(crate) fn read_amount(number: Option<u32>, text: &[u8]) -> (Option<Request>,
 }
 
 /// Skips a dot and digits, or nothing.
-pub(crate) fn skip_precision(text: &[u8]) -> &[u8]
+pub fn skip_precision(text: &[u8]) -> &[u8]
     ensures { result.now ≡ spec.behind_precision text.now }
 {
     match split_byte(text) {

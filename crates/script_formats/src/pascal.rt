@@ -160,9 +160,11 @@ fn read_back(index: Index, text: &[u8]) -> Option<(Directive, &[u8])>
 pub(crate) fn read(text: &[u8]) -> Option<(Directive, &[u8])>
     ensures { option_map (λ found. (found.0, found.1.now)) result ≡ spec.directive text.now }
 {
-    if let Some(rest) = after_percent(text) {
-        return Some((printed(None, None, None), rest));
+    match after_percent(text) {
+        Some(rest) => Some((printed(None, None, None), rest)),
+        None => {
+            let (index, rest) = read_index(text);
+            read_back(index, rest)
+        }
     }
-    let (index, rest) = read_index(text);
-    read_back(index, rest)
 }

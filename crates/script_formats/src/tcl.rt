@@ -28,6 +28,7 @@ fn read_precision(number: Option<u32>, text: &[u8]) -> (Option<Request>, &[u8])
     }
 }
 
+/// Reads `h`, `l` or nothing.
 fn read_size(text: &[u8]) -> (Size, &[u8])
     ensures size { result.0 ≡ (spec.size text.now).0 }
     ensures rest { result.1.now ≡ (spec.size text.now).1 }

@@ -1,0 +1,3 @@
+pub mod LibrepDirectiveLemmas
+pub mod LibrepCountingLemmas
+pub mod LibrepTextLemmas

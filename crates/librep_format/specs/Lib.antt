@@ -1,0 +1,3 @@
+pub mod LibrepDirectives
+pub mod LibrepCounting
+pub mod LibrepFormat
