@@ -10,6 +10,8 @@ mod checks;
 #[cfg(test)]
 mod java;
 #[cfg(test)]
+mod kuit;
+#[cfg(test)]
 mod macros;
 #[cfg(test)]
 mod named;
