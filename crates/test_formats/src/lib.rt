@@ -14,6 +14,8 @@ mod java;
 #[cfg(test)]
 mod java_printf;
 #[cfg(test)]
+mod kuit;
+#[cfg(test)]
 mod librep;
 #[cfg(test)]
 mod macros;
