@@ -78,11 +78,24 @@ unfolding gbk_f7
 of_gbk_f7 = refl
 
 pub of_pairs : (charset : Charset) (first : ℕ) → AreScalars (pairs charset first)
-of_pairs EucJp first = choice (nat_lt first 0xE9) _ _ of_euc_jp_8e (of_euc_jp_e9)
-of_pairs EucKr first = choice (nat_lt first 0xEA) _ _ of_euc_kr_a1 (of_euc_kr_ea)
-of_pairs Big5 first = choice (nat_lt first 0xC8) _ _ of_big5_a1 (choice (nat_lt first 0xEE) _ _ of_big5_c8 (of_big5_ee))
-of_pairs Gb2312 first = choice (nat_lt first 0xEC) _ _ of_gb2312_a1 (of_gb2312_ec)
-of_pairs Gbk first = choice (nat_lt first 0xA8) _ _ of_gbk_81 (choice (nat_lt first 0xD1) _ _ of_gbk_a8 (choice (nat_lt first 0xF7) _ _ of_gbk_d1 (of_gbk_f7)))
+of_pairs EucJp first =
+    choice (nat_lt first 0xE9) _ _ of_euc_jp_8e
+    (of_euc_jp_e9)
+of_pairs EucKr first =
+    choice (nat_lt first 0xEA) _ _ of_euc_kr_a1
+    (of_euc_kr_ea)
+of_pairs Big5 first =
+    choice (nat_lt first 0xC8) _ _ of_big5_a1
+    (choice (nat_lt first 0xEE) _ _ of_big5_c8
+    (of_big5_ee))
+of_pairs Gb2312 first =
+    choice (nat_lt first 0xEC) _ _ of_gb2312_a1
+    (of_gb2312_ec)
+of_pairs Gbk first =
+    choice (nat_lt first 0xA8) _ _ of_gbk_81
+    (choice (nat_lt first 0xD1) _ _ of_gbk_a8
+    (choice (nat_lt first 0xF7) _ _ of_gbk_d1
+    (of_gbk_f7)))
 of_pairs Ascii first = refl
 of_pairs Iso8859_1 first = refl
 of_pairs Iso8859_2 first = refl
