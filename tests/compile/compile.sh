@@ -370,8 +370,11 @@ for charset in EUC-JP EUC-KR BIG5 GB2312 GBK; do
   {
     header "$charset" zh
     { python3 -c 'print("".join(chr(c) for c in range(0xa0, 0x10000) if not 0xd800 <= c < 0xe000), end="")' |
-      iconv -c -f UTF-8 -t "$charset" | iconv -f "$charset" -t UTF-8 |
-      python3 -c 'import sys; t = sys.stdin.read(); [print(f"msgid \"{i}\"\nmsgstr \"{t[i:i + 80]}\\n\"\n") for i in range(0, len(t), 80)]'
+      iconv -c -f UTF-8 -t "$charset" | iconv -f "$charset" -t UTF-8 | LC_ALL=C.UTF-8 python3 -c '
+import sys
+text = "".join(c for c in sys.stdin.read() if c >= "\x80")
+for i in range(0, len(text), 80):
+    print(f"msgid \"{i}\"\nmsgstr \"{text[i:i + 40]}\\n{text[i + 40:i + 80]}.\"\n")'
       case $charset in BIG5) echo '許功蓋' ;; GBK) echo '誠' ;; *) echo '中' ;; esac |
         sed 's/.*/msgid "end"\nmsgstr "&\\n&"/'
     } | iconv -f UTF-8 -t "$charset"
