@@ -106,8 +106,8 @@ static char *header_as_filed(kob_text decoded, const char *own) {
     return header;
 }
 
-/* Whether the file's own charset has characters that share a code point, as BIG5 has ten pairs: what is decoded of it can't
- * be converted back to the bytes of the file. */
+/* Whether the file's own charset has characters that share a code point, as BIG5 has ten pairs: what is decoded of it
+ * can't be converted back to the bytes of the file. */
 static int shares_code_points(const char *own) {
     static const char *const names[] = { "BIG5", "BIG-5", "BIGFIVE", "BIG-FIVE", "CN-BIG5", "CP950" };
     struct catalogue file = { .has_charset = 0 };

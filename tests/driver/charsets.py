@@ -1,6 +1,6 @@
-"""Compares the specification of crates/charsets with iconv of GNU libc: each byte of each charset and each of its names,
-and each two bytes of the charsets that have characters of several bytes. Of EUC-JP also each three bytes that begin with
-8F, and of all of these some texts at random.
+"""Compares the specification of crates/charsets with iconv of GNU libc: each byte of each charset and each of its
+names, and each two bytes of the charsets that have characters of several bytes. Of EUC-JP also each three bytes that
+begin with 8F, and of all of these some texts at random.
 
 usage: tests/driver/charsets.py    at the top of the repository
 """
@@ -129,7 +129,8 @@ def wrong_texts(variant, name, table, found):
     if variant == "EucJp":
         texts += [b"\x8f" + two for two in texts]
     texts += some_texts(pairs)
-    return [text.hex() for text in texts if decoded(variant, text, table, pairs, behind_8f) != convert(text)], len(texts)
+    wrong = [text.hex() for text in texts if decoded(variant, text, table, pairs, behind_8f) != convert(text)]
+    return wrong, len(texts)
 
 
 def iconv(name, byte):
