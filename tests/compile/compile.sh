@@ -32,15 +32,24 @@ catalogues() {
   done
 }
 
-# msgfmt_of FILE OPTION..: makes wanted.mo of a PO file by msgfmt, and keeps what that says. A text in a single-byte
-# charset, which msgfmt refuses and libkobdzila converts, is converted by iconv first.
+# is_converted CHARSET FILE: libkobdzila converts the file, since each byte is a character, or the charset is one of the
+# five that have several bytes for one
+is_converted() {
+  case ${1^^} in
+    EUC-JP | EUC-KR | BIG5 | GB2312 | GBK) iconv -f "$1" -t UTF-8 "$2" > iconv 2>&1 ;;
+    *) [ "$(iconv -f "$1" -t UTF-32LE "$2" 2> iconv | wc -c)" = $(($(wc -c < "$2") * 4)) ] ;;
+  esac
+}
+
+# msgfmt_of FILE OPTION..: makes wanted.mo of a PO file by msgfmt, and keeps what that says. A text in another charset,
+# which msgfmt refuses and libkobdzila converts, is converted by iconv first.
 msgfmt_of() {
   local file=$1 charset
   shift
   "$program" "$@" -o wanted.mo "$file" 2> said && return
   grep -qE ': (unsupported charset|not UTF-8)$' said || return
   charset=$(grep -ao 'charset=[A-Za-z0-9_-]*' "$file" | head -n 1)
-  [ "$(iconv -f "${charset#charset=}" -t UTF-32LE "$file" 2> iconv | wc -c)" = $(($(wc -c < "$file") * 4)) ] || return
+  is_converted "${charset#charset=}" "$file" || return
   mkdir -p recoded
   iconv -f "${charset#charset=}" -t UTF-8 "$file" 2> iconv | sed "s/$charset/charset=UTF-8/" > "recoded/${file##*/}"
   mv said refused
