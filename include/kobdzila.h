@@ -123,13 +123,13 @@ const char *kob_fault_text(enum kob_fault fault);
  * and aarch64 Linux: `PRIu64` stands for `lu`. A message with a segment of another name is left out.
  *
  * If its strings aren't UTF-8, or its header names another charset, they are decoded from the charset that its header
- * names, one of the single-byte charsets that kob_open(3) lists, and the catalogue's header says `charset=UTF-8`. */
+ * names, one of those that kob_open(3) lists, and the catalogue's header says `charset=UTF-8`. */
 kob_catalogue *kob_open_mo(const void *bytes, size_t len, kob_refusal *why);
 
 /* Compile the PO file in `bytes` and return its catalogue. `options` is 0 or a combination of enum kob_options.
  *
  * If the file isn't UTF-8, or its header names another charset, it is decoded from the charset that its header names,
- * one of the single-byte charsets that kob_open(3) lists, and the catalogue's header says `charset=UTF-8`. The header
+ * one of those that kob_open(3) lists, and the catalogue's header says `charset=UTF-8`. The header
  * must be at the front of the file. The file may have 67,108,864 bytes before and after it is decoded.
  *
  * A message that is flagged `c-format` is system-dependent if its msgid or a translation has a macro of <inttypes.h>,

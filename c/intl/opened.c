@@ -1,4 +1,4 @@
-/* The catalogue of an MO file's bytes. Most are opened by libkobdzila, which decodes single-byte charsets. Some of those
+/* The catalogue of an MO file's bytes. Most are opened by libkobdzila, which decodes most charsets. Some of those
  * that it refuses the C library reads: in other charsets, of later revisions, with odd forms. Of these a file is made that
  * libkobdzila takes, so that no catalogue is ever shown to the C library, which trusts its files. */
 #define _GNU_SOURCE
@@ -106,6 +106,17 @@ static char *header_as_filed(kob_text decoded, const char *own) {
     return header;
 }
 
+/* Whether the file's own charset has characters that share a code point, as BIG5 has ten pairs: what is decoded of it
+ * can't be converted back to the bytes of the file. */
+static int shares_code_points(const char *own) {
+    static const char *const names[] = { "BIG5", "BIG-5", "BIGFIVE", "BIG-FIVE", "CN-BIG5", "CP950" };
+    struct catalogue file = { .has_charset = 0 };
+    for (size_t i = 0; take_charset(&file, own) && file.has_charset && i < sizeof names / sizeof *names; i++)
+        if (is_same_codeset(file.charset, names[i]))
+            return 1;
+    return 0;
+}
+
 /* Open the bytes as they are, or decoded. *fault is why libkobdzila refused them, or why they have to be read by rows. */
 static enum standing open_plain(const unsigned char *bytes, size_t len, struct catalogue **catalogue,
                                 enum kob_fault *fault) {
@@ -117,7 +128,8 @@ static enum standing open_plain(const unsigned char *bytes, size_t len, struct c
     const char *own = header_in(bytes, len);
     if (is_as_filed(header.at, own))
         return TAKEN;
-    c->header = own && are_keys_ascii(c->held) ? header_as_filed(header, own) : NULL;
+    int is_decoded = own && are_keys_ascii(c->held) && !shares_code_points(own);
+    c->header = is_decoded ? header_as_filed(header, own) : NULL;
     if (c->header)
         return TAKEN;
     kob_release(c->held);

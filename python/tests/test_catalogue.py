@@ -33,7 +33,7 @@ REFUSED_TEXTS = [
     (b'msgstr "x"', Fault.PO_BAD_ORDER, 1),
     (b'msgid "a"\nmsgid_plural "b"\nmsgstr[1] "x"', Fault.PO_BAD_INDEX, 3),
     (b'msgid "a"\nmsgstr "x"\nmsgid "a"\nmsgstr "y"', Fault.PO_DUPLICATE, 3),
-    (b'msgid ""\nmsgstr "charset=EUC-JP"', Fault.PO_CHARSET, 1),
+    (b'msgid ""\nmsgstr "charset=EUC-TW"', Fault.PO_CHARSET, 1),
 ]
 CHECKED_TEXTS = [
     (b'msgid "a"\nmsgid_plural "b"\nmsgstr[0] "x"', Fault.PO_NO_RULE),
@@ -52,7 +52,7 @@ REFUSED_FILES = [
     (WHOLE[:-1] + b"x", Fault.MO_NO_NUL),
     (mo((b"a", b"\xff")), Fault.MO_BAD_TEXT),
     (mo((b"a", b"x\0y")), Fault.MO_FORMS),
-    (mo((b"", b"charset=EUC-JP")), Fault.MO_CHARSET),
+    (mo((b"", b"charset=EUC-TW")), Fault.MO_CHARSET),
     (mo((b"", b"charset=CP1252"), (b"a", b"\x81")), Fault.MO_NO_CHARACTER),
 ]
 

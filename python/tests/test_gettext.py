@@ -112,7 +112,7 @@ class ClassTest(unittest.TestCase):
 
     def test_read_by_python(self) -> None:
         """Other charsets, other revisions: what Python's reader answers."""
-        header = (b"", b"Content-Type: text/plain; charset=EUC-JP\nPlural-Forms: nplurals=2; plural=n>1;\n")
+        header = (b"", b"Content-Type: text/plain; charset=Shift_JIS\nPlural-Forms: nplurals=2; plural=n>1;\n")
         files = [
             mo(header, (b"a\0b", b"\xa4\xa2\0\xa4\xa4"), (b"c\x04d", b"\xa4\xa6")),
             mo((b"a", b"b"), revision=1),

@@ -32,15 +32,24 @@ catalogues() {
   done
 }
 
-# msgfmt_of FILE OPTION..: makes wanted.mo of a PO file by msgfmt, and keeps what that says. A text in a single-byte
-# charset, which msgfmt refuses and libkobdzila converts, is converted by iconv first.
+# is_converted CHARSET FILE: libkobdzila converts the file, since each byte is a character, or the charset is one of the
+# five that have several bytes for one
+is_converted() {
+  case ${1^^} in
+    EUC-JP | EUC-KR | BIG5 | GB2312 | GBK) iconv -f "$1" -t UTF-8 "$2" > iconv 2>&1 ;;
+    *) [ "$(iconv -f "$1" -t UTF-32LE "$2" 2> iconv | wc -c)" = $(($(wc -c < "$2") * 4)) ] ;;
+  esac
+}
+
+# msgfmt_of FILE OPTION..: makes wanted.mo of a PO file by msgfmt, and keeps what that says. A text in another charset,
+# which msgfmt refuses and libkobdzila converts, is converted by iconv first.
 msgfmt_of() {
   local file=$1 charset
   shift
   "$program" "$@" -o wanted.mo "$file" 2> said && return
   grep -qE ': (unsupported charset|not UTF-8)$' said || return
   charset=$(grep -ao 'charset=[A-Za-z0-9_-]*' "$file" | head -n 1)
-  [ "$(iconv -f "${charset#charset=}" -t UTF-32LE "$file" 2> iconv | wc -c)" = $(($(wc -c < "$file") * 4)) ] || return
+  is_converted "${charset#charset=}" "$file" || return
   mkdir -p recoded
   iconv -f "${charset#charset=}" -t UTF-8 "$file" 2> iconv | sed "s/$charset/charset=UTF-8/" > "recoded/${file##*/}"
   mv said refused
@@ -363,10 +372,38 @@ if msgfmt_of latin/de.po --no-hash && [ -f recoded/de.po ]; then
 else
   failed 'compile, a single-byte charset: the text that iconv converts' "$(cat said)"
 fi
-{ header EUC-JP ja && printf 'msgid "hi"\nmsgstr "\264\301"\n\n#, fuzzy\nmsgid "a"\nmsgstr "b"\n'; } > euc/ja.po
+# Charsets of several bytes: all characters that iconv has, 80 in a message, and bytes 5C that are no backslashes before
+# one that is.
+mkdir wide
+for charset in EUC-JP EUC-KR BIG5 GB2312 GBK; do
+  {
+    header "$charset" zh
+    { python3 -c 'print("".join(chr(c) for c in range(0xa0, 0x10000) if not 0xd800 <= c < 0xe000), end="")' |
+      iconv -c -f UTF-8 -t "$charset" | iconv -f "$charset" -t UTF-8 | LC_ALL=C.UTF-8 python3 -c '
+import sys
+text = "".join(c for c in sys.stdin.read() if c >= "\x80")
+for i in range(0, len(text), 80):
+    print(f"msgid \"{i}\"\nmsgstr \"{text[i:i + 40]}\\n{text[i + 40:i + 80]}.\"\n")'
+      case $charset in BIG5) echo '許功蓋' ;; GBK) echo '誠' ;; *) echo '中' ;; esac |
+        sed 's/.*/msgid "end"\nmsgstr "&\\n&"/'
+    } | iconv -f UTF-8 -t "$charset"
+  } > "wide/$charset.po"
+  iconv -f "$charset" -t UTF-8 "wide/$charset.po" | sed "s/charset=$charset/charset=UTF-8/" > "utf8-$charset.po"
+  run --no-gnu --force -q "wide/$charset.po"
+  holds "compile, $charset" [ "$status" = 0 ]
+  "$program" -o wanted.mo "utf8-$charset.po"
+  holds "compile, $charset: the bytes of msgfmt of the text that iconv converts" cmp -s "wide/$charset.mo" wanted.mo
+  if [ -n "$gnu" ]; then
+    "$gnu" --no-hash -o wanted.gnu "utf8-$charset.po" 2> said
+    holds "compile, $charset: the bytes of GNU msgfmt of this text" cmp -s "wide/$charset.mo" wanted.gnu
+  fi
+done
+{ header BIG5 zh && printf 'msgid "a"\nmsgstr "\245"\n'; } > wide/BIG5.po
+says 'compile, an incomplete character, --no-gnu' 1 'wide/BIG5.po:5: byte without a character' --no-gnu -q wide/BIG5.po
+{ header EUC-TW zh && printf 'msgid "hi"\nmsgstr "\304\343"\n\n#, fuzzy\nmsgid "a"\nmsgstr "b"\n'; } > euc/zh.po
 { header UTF-8 fr && printf '#= fuzzy\nmsgid "a"\nmsgstr "b"\n'; } > flags.po
-says 'compile, another charset, --no-gnu' 1 'euc/ja.po:5: not UTF-8' --no-gnu -q euc
-holds 'compile, another charset, --no-gnu: nothing is written' is_absent euc/ja.mo
+says 'compile, another charset, --no-gnu' 1 'euc/zh.po:5: not UTF-8' --no-gnu -q euc
+holds 'compile, another charset, --no-gnu: nothing is written' is_absent euc/zh.mo
 says 'compile, flags in #=, --no-gnu' 1 'flags.po:4: flags in a line #= need GNU msgfmt' --no-gnu -q flags.po
 { header UTF-8 fr && printf '#, c-format\nmsgid "%%<PRIu64> of %%d"\nmsgstr "%%2$Id, %%1$<PRIu64>"\n\nmsgid "a"\nmsgstr "b"\n'; } > macros/fr.po
 says 'compile, macros, --no-gnu' 0 'macros/fr.po: 2 translated messages.' --no-gnu -q -c --statistics macros/fr.po
@@ -379,27 +416,27 @@ if [ -n "$gnu" ]; then
     "$gnu" --no-hash -o wanted.gnu "$it" 2> said && cmp -s wanted.gnu "${it%.po}.mo" || wrong+="$it "
   done
   holds "compile, macros: the bytes of GNU msgfmt${wrong:+: not of $wrong}" [ -z "$wrong" ]
-  says 'compile, another charset' 0 'euc/ja.po: 1 translated message, 1 fuzzy translation.' --statistics -q euc
-  "$gnu" --no-hash -o wanted.gnu euc/ja.po
-  holds 'compile, another charset: the bytes of GNU msgfmt' cmp -s euc/ja.mo wanted.gnu
-  says 'compile, another charset, -c -f' 0 'euc/ja.po: 1 translated message, 1 fuzzy translation.' --statistics -q -c -f --force euc
-  mkdir checked && { cat euc/ja.po && printf '#, c-format\nmsgid "%%d"\nmsgstr "%%s"\n'; } > checked/ja.po
+  says 'compile, another charset' 0 'euc/zh.po: 1 translated message, 1 fuzzy translation.' --statistics -q euc
+  "$gnu" --no-hash -o wanted.gnu euc/zh.po
+  holds 'compile, another charset: the bytes of GNU msgfmt' cmp -s euc/zh.mo wanted.gnu
+  says 'compile, another charset, -c -f' 0 'euc/zh.po: 1 translated message, 1 fuzzy translation.' --statistics -q -c -f --force euc
+  mkdir checked && { cat euc/zh.po && printf '#, c-format\nmsgid "%%d"\nmsgstr "%%s"\n'; } > checked/zh.po
   says 'compile, another charset, checked by GNU msgfmt' 1 \
-    "checked/ja.po:12: format specifications in 'msgid' and 'msgstr' for argument 1 are not the same" -q -c checked
-  { header EUC-JP ja && printf 'msgid "hi"\nmsgid "x"\n'; } > euc/fr.po
+    "checked/zh.po:12: format specifications in 'msgid' and 'msgstr' for argument 1 are not the same" -q -c checked
+  { header EUC-TW zh && printf 'msgid "hi"\nmsgid "x"\n'; } > euc/fr.po
   "$gnu" -o none.mo euc/fr.po 2> said
   run -q euc/fr.po
   holds "compile, another charset that GNU's refuses: its first line" [ "$(head -n 1 said | sed 's/:[0-9]*: /: /')" = "$(sed 's/:[0-9]*: /: /' err)" ]
-  (unset GNU_MSGFMT && PATH=$room/none && "$tested" -q --force euc/ja.po) 2> err
+  (unset GNU_MSGFMT && PATH=$room/none && "$tested" -q --force euc/zh.po) 2> err
   status=$?
-  judge 'compile, another charset, no GNU msgfmt' 1 "euc/ja.po:5: not UTF-8
+  judge 'compile, another charset, no GNU msgfmt' 1 "euc/zh.po:5: not UTF-8
 kob-compile: GNU msgfmt may compile 1 of these, and there is none on the PATH; it is in the package gettext" &&
     ok 'compile, another charset, no GNU msgfmt'
   (unset GNU_MSGFMT && PATH=$room/none && "$tested" -q flags.po) 2> err
   status=$?
   judge 'compile, flags in #=, no GNU msgfmt' 1 "flags.po:4: flags in a line #= are known to GNU msgfmt since 0.26, and there is none on the PATH; it is in the package gettext" &&
     ok 'compile, flags in #=, no GNU msgfmt'
-  mkdir eucs && for it in $(seq 40); do cp euc/ja.po "eucs/l$it.po"; done
+  mkdir eucs && for it in $(seq 40); do cp euc/zh.po "eucs/l$it.po"; done
   run -q -j 8 eucs
   wrong=''
   for it in eucs/*.po; do cmp -s "${it%.po}.mo" wanted.gnu || wrong+="$it "; done
@@ -508,7 +545,7 @@ else failed 'compile, --watch' "$(tail -n 3 watching)"; fi
 # checks NAME: the program $tested, which looks at itself, does the work of a few runs
 checks() {
   local wrong='' it
-  rm -rf checked && cp -r project checked && cp euc/ja.po checked/po/de.po && cp bad/fr.po checked/refused.po
+  rm -rf checked && cp -r project checked && cp euc/zh.po checked/po/de.po && cp bad/fr.po checked/refused.po
   printf 'fr de\n' > checked/po/LINGUAS
   for it in '--force -j 4' '--check --json' '--sarif=sarif -o checked/out -d x --force checked/po' '-c --statistics'; do
     # shellcheck disable=SC2086

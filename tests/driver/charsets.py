@@ -1,7 +1,11 @@
-"""Compares the specification of crates/charsets with iconv(1): each byte of each charset, and each of its names.
+"""Compares the specification of crates/charsets with iconv of GNU libc: each byte of each charset and each of its
+names, and each two bytes of the charsets that have characters of several bytes. Of EUC-JP also each three bytes that
+begin with 8F, and of all of these some texts at random.
 
 usage: tests/driver/charsets.py    at the top of the repository
 """
+import ctypes
+import random
 import re
 import subprocess
 import sys
@@ -10,6 +14,13 @@ from pathlib import Path
 SPECS = Path("crates/charsets/specs")
 CASES = re.compile(r"^(?P<word>names|table) (?P<variant>\w+) =(?P<value>.*?)(?=^(?:names|table) |\Z)", re.M | re.S)
 TABLE = re.compile(r"^(?P<name>\w+) =\n(?P<rows>(?: +0x.*\n)+)", re.M)
+PAIRS = re.compile(r"^(?:pairs (?P<variant>\w+) first|behind_8f) =(?P<value>.*?)(?=^\w|^--|\Z)", re.M | re.S)
+CELLS = re.compile(r"first_row = (\w+); first_column = (\w+); rows = (\w+)")
+ROWS = re.compile(r"^(?P<name>\w+) =\n(?P<rows>(?: +.*\n)+)", re.M)
+TERM = re.compile(r'codes "((?:[^"\\]|\\.)*)"|replicate (\d+) 0|(∷)')
+CHAR = re.compile(r"\\u\{([0-9a-f]+)\}|\\(0)|(.)")
+LONGEST = 8  # a text at random
+ROUNDS = 20000
 
 
 def cases(path):
@@ -31,6 +42,97 @@ def names():
     return {variant: re.findall(r'codes "([^"]+)"', value) for variant, value in cases("CharsetNames.antt").items()}
 
 
+def codes_of(text):
+    """The code points of a text as antt spells it."""
+    return [int(by_code, 16) if by_code else 0 if nul else ord(char) for by_code, nul, char in CHAR.findall(text)]
+
+
+def rows():
+    """The rows of code points, by their names."""
+    found = {}
+    for path in SPECS.glob("*Rows.antt"):
+        for listed in ROWS.finditer(path.read_text(encoding="utf-8")):
+            found[listed["name"]] = [[]]
+            for text, zeros, end in TERM.findall(listed["rows"]):
+                found[listed["name"]][-1] += codes_of(text) if not zeros else [0] * int(zeros)
+                if end:
+                    found[listed["name"]].append([])
+    return found
+
+
+def grids():
+    """The cells of two bytes that have a character, by the variant; those behind 8F are under None."""
+    text, known, found = (SPECS / "Pairs.antt").read_text(encoding="utf-8"), rows(), {}
+    for case in PAIRS.finditer(text):
+        parts = [(int(row, 16), int(column, 16), known[name]) for row, column, name in CELLS.findall(case["value"])
+                 if name in known]
+        bounds = [int(bound, 16) for bound in re.findall(r"nat_lt first (\w+)", case["value"])] + [256]
+        found[case["variant"]] = {
+            (row + i, column + j): code
+            for (row, column, cells), bound in zip(parts, bounds)
+            for i, line in enumerate(cells) if row + i < bound for j, code in enumerate(line) if code}
+    return found
+
+
+def decoded(variant, text, table, pairs, behind_8f):
+    """The code points of the characters that a text begins with, and where the first run without one is."""
+    codes, at = [], 0
+    while at < len(text):
+        first, more = text[at], tuple(text[at + 1:at + 3])
+        if first < 128 or table[first - 128]:
+            code, size = (first if first < 128 else table[first - 128]), 1
+        elif variant == "EucJp" and first == 0x8F:
+            code, size = behind_8f.get(more), 3
+        else:
+            code, size = pairs.get((first, *more[:1])), 2
+        if not code and first:
+            break
+        codes.append(code)
+        at += size
+    return codes, at
+
+
+def open_iconv(name):
+    """A function from a text to what iconv(3) makes of it: the code points, and where it stopped."""
+    library = ctypes.CDLL(None)
+    library.iconv_open.restype = ctypes.c_void_p
+    library.iconv.restype = ctypes.c_size_t
+    library.iconv.argtypes = [ctypes.c_void_p] * 5
+    descriptor = library.iconv_open(b"UTF-32LE", name.encode())
+
+    def convert(text):
+        read, room = ctypes.create_string_buffer(text, len(text)), ctypes.create_string_buffer(16 * LONGEST)
+        at, out = ctypes.c_void_p(ctypes.addressof(read)), ctypes.c_void_p(ctypes.addressof(room))
+        left, free = ctypes.c_size_t(len(text)), ctypes.c_size_t(len(room))
+        library.iconv(descriptor, None, None, None, None)
+        library.iconv(descriptor, *(ctypes.byref(word) for word in (at, left, out, free)))
+        library.iconv(descriptor, None, None, ctypes.byref(out), ctypes.byref(free))
+        made = room.raw[:len(room) - free.value]
+        return [int.from_bytes(made[i:i + 4], "little") for i in range(0, len(made), 4)], len(text) - left.value
+
+    return convert
+
+
+def some_texts(pairs):
+    """Texts at random, mostly of characters."""
+    random.seed(1)
+    characters = [bytes(pair) for pair in pairs]
+    for _ in range(ROUNDS):
+        text = b"".join(random.choice([random.choice(characters), random.randbytes(1)]) for _ in range(LONGEST // 2))
+        yield text[:random.randint(1, LONGEST)]
+
+
+def wrong_texts(variant, name, table, found):
+    """The texts of several bytes, of how many, that iconv reads in another way."""
+    convert, pairs, behind_8f = open_iconv(name), found[variant], found[None]
+    texts = [bytes([a, b]) for a in range(256) for b in range(256)]
+    if variant == "EucJp":
+        texts += [b"\x8f" + two for two in texts]
+    texts += some_texts(pairs)
+    wrong = [text.hex() for text in texts if decoded(variant, text, table, pairs, behind_8f) != convert(text)]
+    return wrong, len(texts)
+
+
 def iconv(name, byte):
     """The code points of a byte as iconv has them, none if it refuses the byte."""
     got = subprocess.run(["iconv", "-f", name, "-t", "UTF-32LE"], input=bytes([byte]), capture_output=True, check=False)
@@ -46,19 +148,24 @@ def wrong_bytes(name, table):
 
 def main():
     failures = 0
-    found = tables()
+    found, wide = tables(), grids()
     for variant, known in names().items():
         wrong = wrong_bytes(known[0], found[variant]) if len(found[variant]) == 128 else ["not 128 code points"]
         # (another name is the same charset if iconv has the same characters under it)
         sample = bytes(byte for byte in range(128, 256) if found[variant][byte - 128])
+        sample += b"".join(map(bytes, wide.get(variant, {})))
         texts = {name: subprocess.run(["iconv", "-f", name, "-t", "UTF-8"], input=sample, capture_output=True,
                                       check=False).stdout for name in known}
         unknown = [name for name in known if texts[name] != texts[known[0]]]
-        for what, those in [("each byte is iconv's", wrong), ("iconv has each name for it", unknown)]:
+        told = [("each byte is iconv's", wrong), ("iconv has each name for it", unknown)]
+        if wide.get(variant):
+            wrong, count = wrong_texts(variant, known[0], found[variant], wide)
+            told.append(("%d texts of several bytes are iconv's" % count, wrong))
+        for what, those in told:
             failures += bool(those)
             print(("FAILED" if those else "ok") + " charsets: %s: %s" % (known[0], what)
-                  + (": " + " ".join(map(str, those)) if those else ""))
-    sys.exit(1 if failures or not found else 0)
+                  + (": " + " ".join(map(str, those[:40])) if those else ""))
+    sys.exit(1 if failures or not found or len([cells for cells in wide.values() if cells]) != 6 else 0)
 
 
 main()

@@ -425,6 +425,37 @@ def single_bytes(folder: Path) -> list[Case]:
     return cases
 
 
+SEVERAL_BYTES = ("EUC-JP", "EUC-KR", "BIG5", "GB2312", "GBK")
+# Bytes of BIG5 whose code points other bytes have, too.
+DOUBLES = [b"\xa2\xcc", b"\xa2\xce", b"\xf9\xe9", b"\xf9\xf9", b"\xf9\xfd"]
+
+
+def iconv(text: bytes, *options: str) -> bytes:
+    return subprocess.run(["iconv", *options], input=text, capture_output=True, check=False).stdout
+
+
+def several_bytes(folder: Path) -> list[Case]:
+    """All characters of the charsets of several bytes that libkobdzila decodes, wanted in UTF-8, in the catalogue's charset
+    and in others; and a catalogue with a character that is cut off."""
+    cases = []
+    every = "".join(chr(c) for c in range(0xA0, 0x10000) if not 0xD800 <= c < 0xE000).encode()
+    for charset in SEVERAL_BYTES:
+        text = iconv(iconv(every, "-c", "-f", "UTF-8", "-t", charset), "-f", charset, "-t", "UTF-8").decode()
+        lines = "\n".join(text[i:i + 200] for i in range(0, len(text), 200)).encode()
+        texts = iconv(lines, "-f", "UTF-8", "-t", charset).split(b"\n") + (DOUBLES if charset == "BIG5" else [])
+        entries = {b"%d" % number: line for number, line in enumerate(texts)}
+        header = UTF8.replace(b"UTF-8", charset.encode())
+        install(folder, "fr", f"wide-{charset}", mo(entries, header))
+        install(folder, "fr", f"cut-{charset}", mo({b"0": texts[0], b"1": texts[0] + texts[0][:1]}, header))
+        for domain, asked in ((f"wide-{charset}", entries), (f"cut-{charset}", {b"0": b"", b"1": b""})):
+            words = ["bind", domain, str(folder)]
+            for msgid in (*asked, b""):
+                words += ["ask", domain, msgid.decode()]
+            cases += [Case(["codeset", domain, codeset, *words], {"LANGUAGE": "fr"})
+                      for codeset in ("UTF-8", charset, "EUC-JP", "GB18030")]
+    return cases
+
+
 def escaped(text: str) -> str:
     """As ask_gettext.c prints it."""
     return "".join(f"\\x{byte:02x}" for byte in text.encode())
@@ -603,7 +634,7 @@ def main() -> None:
     folder = room / "messages"
     folder.mkdir()
     parts = (spelled_cases, odd_names, lists, domains, plurals, codesets, threads, changes, replaced_files, other_files,
-             system_strings, charsets, single_bytes, system_charsets, known_differences, hostile_files)
+             system_strings, charsets, single_bytes, several_bytes, system_charsets, known_differences, hostile_files)
     for part in parts:
         for case in part(folder):
             comparing.compare(case)

@@ -460,7 +460,7 @@ static void po_refusals(void) {
         { KOB_PO_BAD_ORDER, 1, "msgstr \"x\"\n" },
         { KOB_PO_BAD_INDEX, 3, "msgid \"a\"\nmsgid_plural \"b\"\nmsgstr[1] \"x\"\n" },
         { KOB_PO_DUPLICATE, 3, "msgid \"a\"\nmsgstr \"x\"\nmsgid \"a\"\nmsgstr \"y\"\n" },
-        { KOB_PO_CHARSET, 1, "msgid \"\"\nmsgstr \"Content-Type: text/plain; charset=EUC-JP\\n\"\n" },
+        { KOB_PO_CHARSET, 1, "msgid \"\"\nmsgstr \"Content-Type: text/plain; charset=EUC-TW\\n\"\n" },
         { KOB_PO_NO_CHARACTER, 4, "msgid \"\"\nmsgstr \"charset=CP1252\\n\"\nmsgid \"a\"\nmsgstr \"\x81\"\n" },
         { KOB_PO_NO_RULE, 1, PLURAL },
         { KOB_PO_BAD_RULE, 1, HEADER("nplurals=1; plural=;") PLURAL },
@@ -501,7 +501,7 @@ static kob_catalogue *in_charset(const char *charset, const char *translation, k
     return kob_open_mo(file, 65 + (size_t)len + strlen(translation), why);
 }
 
-/* Files in KOI8-R and CP1252 are decoded; a byte without a character and an unknown charset are refused. */
+/* Files in KOI8-R, EUC-JP and CP1252 are decoded; a byte without a character and an unknown charset are refused. */
 static void mo_charsets(void) {
     kob_refusal why;
     kob_catalogue *c = in_charset("KOI8-R", "\xc4\xc1", &why);
@@ -511,9 +511,13 @@ static void mo_charsets(void) {
     c = in_charset("koi8-r", "ascii", &why);
     is("one whose bytes are ASCII", c && !strcmp(kob_gettext(c, "a"), "ascii"));
     kob_release(c);
+    c = in_charset("EUC-JP", "\xa4\xa2\x8e\xb1", &why);
+    is("an MO file in EUC-JP", c && !strcmp(kob_gettext(c, "a"), "\xe3\x81\x82\xef\xbd\xb1"));
+    kob_release(c);
+    is("an incomplete character", !in_charset("EUC-JP", "\xa4", &why) && why.fault == KOB_MO_NO_CHARACTER);
     is("a byte without a character", !in_charset("CP1252", "\x81", &why) && why.fault == KOB_MO_NO_CHARACTER);
-    is("a charset that isn't decoded", !in_charset("EUC-JP", "\xa4\xa2", &why) && why.fault == KOB_MO_BAD_TEXT);
-    is("and one that is ASCII", !in_charset("EUC-JP", "x", &why) && why.fault == KOB_MO_CHARSET);
+    is("a charset that isn't decoded", !in_charset("EUC-TW", "\xa4\xa2", &why) && why.fault == KOB_MO_BAD_TEXT);
+    is("and one that is ASCII", !in_charset("EUC-TW", "x", &why) && why.fault == KOB_MO_CHARSET);
 }
 
 /* A text in ISO-8859-1 is decoded, unless it has to be UTF-8. */

@@ -94,7 +94,7 @@ static void mo_refusals(void) {
     unsigned char *file = mo_of(falling, two, 2, &len);
     refuses_mo(file, len, KOB_MO_ORDER);
     free(file);
-    refuses_strings((struct string){ "", 0 }, (struct string){ "charset=EUC-JP\n", 15 }, KOB_MO_CHARSET);
+    refuses_strings((struct string){ "", 0 }, (struct string){ "charset=EUC-TW\n", 15 }, KOB_MO_CHARSET);
     refuses_swollen();
 }
 

@@ -132,11 +132,16 @@ says 'unfmt, a PO file' 1 'kob-msgunfmt: layouts.po: not an MO file: name a file
 says 'unfmt, an empty file' 1 'kob-msgunfmt: standard input: file too short' < /dev/null
 printf 'msgid ""\nmsgstr "charset=ISO-8859-1\\n"\nmsgid "a"\nmsgstr "\344"\n' > latin.po
 sed 's/ISO-8859-1/EUC-JP/; s/\xe4/\xa4\xa2/' latin.po > japanese.po
+sed 's/ISO-8859-1/SHIFT_JIS/; s/\xe4/\x82\xa0/' latin.po > shifted.po
 if [ -n "$gnu" ] && "$(dirname "$gnu")/msgfmt" -o latin.mo latin.po 2> gnu-said &&
-  "$(dirname "$gnu")/msgfmt" -o japanese.mo japanese.po 2> gnu-said && "$gnu" latin.mo | msgconv -t UTF-8 -o utf8.po; then
+  "$(dirname "$gnu")/msgfmt" -o japanese.mo japanese.po 2> gnu-said &&
+  "$(dirname "$gnu")/msgfmt" -o shifted.mo shifted.po 2> gnu-said &&
+  "$gnu" latin.mo | msgconv -t UTF-8 -o utf8.po && "$gnu" japanese.mo | msgconv -t UTF-8 -o japanese-utf8.po; then
   says 'unfmt, ISO-8859-1' 0 '' -o latin-as-utf8.po latin.mo
   holds 'unfmt, ISO-8859-1: the text in UTF-8, as msgconv writes it' cmp -s utf8.po latin-as-utf8.po
-  says 'unfmt, a charset of several bytes' 1 'kob-msgunfmt: japanese.mo: bad text: use GNU msgunfmt, and msgconv -t UTF-8 on what it writes' japanese.mo
+  says 'unfmt, EUC-JP' 0 '' -o japanese-as-utf8.po japanese.mo
+  holds 'unfmt, EUC-JP: the text in UTF-8, as msgconv writes it' cmp -s japanese-utf8.po japanese-as-utf8.po
+  says 'unfmt, Shift_JIS' 1 'kob-msgunfmt: shifted.mo: bad text: use GNU msgunfmt, and msgconv -t UTF-8 on what it writes' shifted.mo
 else
   skipped 'unfmt, other charsets' 'no GNU msgunfmt'
 fi

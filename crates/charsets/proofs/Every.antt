@@ -1,7 +1,7 @@
 -- Every charset is in the list of all.
 
 -- Written by tools/make_charsets.
-use Rattle.std.proofs.Common.{◌≡◌, ℕ, ◌<◌, refl, lit<}
+use Rattle.std.proofs.Common.{refl, lit<}
 use Rattle.std.specs.List.{Contains}
 use Rattle.charsets.specs.declared.kinds.Charset.{Charset}
 use Rattle.charsets.specs.declared.kinds.Charset.TheVariants.{Ascii, Iso8859_1, Iso8859_2, Iso8859_3}
@@ -11,7 +11,8 @@ use Rattle.charsets.specs.declared.kinds.Charset.TheVariants.{Iso8859_15, Iso885
 use Rattle.charsets.specs.declared.kinds.Charset.TheVariants.{Koi8T, Cp850, Cp866, Cp874}
 use Rattle.charsets.specs.declared.kinds.Charset.TheVariants.{Cp1250, Cp1251, Cp1252, Cp1253}
 use Rattle.charsets.specs.declared.kinds.Charset.TheVariants.{Cp1254, Cp1256, Cp1257, Tis620}
-use Rattle.charsets.specs.declared.kinds.Charset.TheVariants.{GeorgianPs}
+use Rattle.charsets.specs.declared.kinds.Charset.TheVariants.{GeorgianPs, EucJp, EucKr, Big5}
+use Rattle.charsets.specs.declared.kinds.Charset.TheVariants.{Gb2312, Gbk}
 use Rattle.charsets.specs.Every.{all}
 
 pub every : (charset : Charset) → Contains all charset
@@ -44,3 +45,8 @@ every Cp1256 = (25, lit< tt, refl)
 every Cp1257 = (26, lit< tt, refl)
 every Tis620 = (27, lit< tt, refl)
 every GeorgianPs = (28, lit< tt, refl)
+every EucJp = (29, lit< tt, refl)
+every EucKr = (30, lit< tt, refl)
+every Big5 = (31, lit< tt, refl)
+every Gb2312 = (32, lit< tt, refl)
+every Gbk = (33, lit< tt, refl)

@@ -1,3 +1,5 @@
-mod Steps
+mod Cells
+mod OneMore
 mod NameLists
 mod Every
+mod Scalars

@@ -10,7 +10,8 @@ use Rattle.charsets.specs.declared.kinds.Charset.TheVariants.{Iso8859_15, Iso885
 use Rattle.charsets.specs.declared.kinds.Charset.TheVariants.{Koi8T, Cp850, Cp866, Cp874}
 use Rattle.charsets.specs.declared.kinds.Charset.TheVariants.{Cp1250, Cp1251, Cp1252, Cp1253}
 use Rattle.charsets.specs.declared.kinds.Charset.TheVariants.{Cp1254, Cp1256, Cp1257, Tis620}
-use Rattle.charsets.specs.declared.kinds.Charset.TheVariants.{GeorgianPs}
+use Rattle.charsets.specs.declared.kinds.Charset.TheVariants.{GeorgianPs, EucJp, EucKr, Big5}
+use Rattle.charsets.specs.declared.kinds.Charset.TheVariants.{Gb2312, Gbk}
 
 unfoldable pub names : Charset → List (List ℕ)
 names Ascii = codes "ASCII" ∷ codes "ANSI_X3.4-1968" ∷ codes "ANSI_X3.4-1986" ∷ codes "CP367" ∷ codes "CSASCII" ∷
@@ -68,3 +69,8 @@ names Cp1257 = codes "CP1257" ∷ codes "WINBALTRIM" ∷ codes "WINDOWS-1257" �
 names Tis620 = codes "TIS-620" ∷ codes "ISO-IR-166" ∷ codes "TIS620" ∷ codes "TIS620-0" ∷ codes "TIS620.2529-1" ∷
     codes "TIS620.2533-0" ∷ []
 names GeorgianPs = codes "GEORGIAN-PS" ∷ []
+names EucJp = codes "EUC-JP" ∷ codes "CSEUCPKDFMTJAPANESE" ∷ codes "EUCJP" ∷ codes "OSF00030010" ∷ codes "UJIS" ∷ []
+names EucKr = codes "EUC-KR" ∷ codes "CSEUCKR" ∷ codes "EUCKR" ∷ codes "OSF0004000A" ∷ []
+names Big5 = codes "BIG5" ∷ codes "BIG-5" ∷ codes "BIG-FIVE" ∷ codes "BIGFIVE" ∷ codes "CN-BIG5" ∷ codes "CP950" ∷ []
+names Gb2312 = codes "GB2312" ∷ codes "CN-GB" ∷ codes "CSGB2312" ∷ codes "EUC-CN" ∷ codes "EUCCN" ∷ []
+names Gbk = codes "GBK" ∷ codes "CP936" ∷ codes "GB13000" ∷ codes "MS936" ∷ codes "WINDOWS-936" ∷ []

@@ -1,33 +1,70 @@
--- Bytes in a single-byte charset, and their text.
-use Rattle.std.specs.Prelude.{◌≡◌, ℕ, ◌-◌, ◌<◌, ◌≤◌, if◌then◌else◌, nat_lt, List, length, map, slice_index, ⊤}
-use Rattle.std.specs.Prelude.{encode_utf8_all}
+-- Bytes in a charset, and their text: each character is a run of one, two or three bytes.
+use Rattle.std.specs.Prelude.{◌≡◌, ℕ, ◌-◌, ◌<◌, ◌==◌, if◌then◌else◌, nat_lt, Bool, false, List, [], ◌∷◌, length, drop}
+use Rattle.std.specs.Prelude.{Option, Some, None, slice_index, encode_utf8_all, ⊤}
 use Rattle.charsets.specs.declared.kinds.Charset.{Charset}
+use Rattle.charsets.specs.declared.kinds.Charset.TheVariants.{EucJp}
 use Rattle.charsets.specs.declared.reading.DecodeFault.{DecodeFault}
 use Rattle.charsets.specs.declared.reading.DecodeFault.TheVariants.{NoCharacter, Memory}
 use Rattle.charsets.specs.Table.{table}
+use Rattle.charsets.specs.Grid.{cell}
+use Rattle.charsets.specs.Pairs.{behind_8f, pairs}
 
--- the code point of a byte: ASCII below 128, and 0 for a later byte that has none
+-- ---- one character
+
+-- the code point of a byte from 128 on that is a character by itself, 0 if it is none
 abbrev pub code_of : Charset → ℕ → ℕ
-code_of charset byte = if nat_lt byte 128 then byte else slice_index (table charset) (byte - 128)
+code_of charset byte = slice_index (table charset) (byte - 128)
 
--- the byte has no character
-abbrev pub HasNone : Charset → ℕ → Type 0
-HasNone charset byte = (128 ≤ byte) × (code_of charset byte ≡ 0)
+-- the byte 8F comes before two bytes in EUC-JP
+abbrev pub is_before_two : Charset → ℕ → Bool
+is_before_two EucJp byte = byte == 0x8F
+is_before_two _ byte = false
 
--- c is the byte's character
-abbrev pub IsCharOf : Charset → ℕ → ℕ → Type 0
-IsCharOf charset byte c = (c ≡ code_of charset byte) × ¬ HasNone charset byte
+-- a character of this code point and this many bytes, none if the code point is 0
+abbrev pub sized : ℕ → ℕ → Option (ℕ × ℕ)
+sized code size = if code == 0 then None else Some (code, size)
 
--- the text is the UTF-8 of the character of each byte, in order, and each byte has one
+-- the character that the byte 8F and the first two of these bytes are
+abbrev pub of_three : List ℕ → Option (ℕ × ℕ)
+of_three (second ∷ third ∷ bytes) = sized (cell behind_8f second third) 3
+of_three _ = None
+
+-- the character that a first byte and the first of these bytes are
+abbrev pub of_two : Charset → ℕ → List ℕ → Option (ℕ × ℕ)
+of_two charset first (second ∷ bytes) = sized (cell (pairs charset first) first second) 2
+of_two charset first [] = None
+
+abbrev pub of_several : Charset → ℕ → List ℕ → Option (ℕ × ℕ)
+of_several charset first bytes =
+    if is_before_two charset first then of_three bytes else of_two charset first bytes
+
+-- the character at the front of the bytes: its code point, and how many bytes it has; bytes below 128 are ASCII
+abbrev pub front : Charset → List ℕ → Option (ℕ × ℕ)
+front charset [] = None
+front charset (first ∷ bytes) =
+    if nat_lt first 128 then Some (first, 1)
+    else (if code_of charset first == 0 then of_several charset first bytes else Some (code_of charset first, 1))
+
+-- ---- a text
+
+-- the bytes are these characters, one after another, and then the rest
+abbrev pub BeginsWith : Charset → List ℕ → List ℕ → List ℕ → Type 0
+BeginsWith charset bytes [] rest = bytes ≡ rest
+BeginsWith charset bytes (c ∷ characters) rest =
+    (size : ℕ) × (front charset bytes ≡ Some (c, size)) × BeginsWith charset (drop size bytes) characters rest
+
+-- the bytes are characters, and the text is their UTF-8
 pub record IsDecoded (charset : Charset) (bytes text : List ℕ) : Type 0 where
-  pub each : (k : ℕ) → k < length bytes → ¬ HasNone charset (slice_index bytes k)
-  pub spells : text ≡ encode_utf8_all (map (code_of charset) bytes)
+  pub characters : List ℕ
+  pub whole : BeginsWith charset bytes characters []
+  pub spells : text ≡ encode_utf8_all characters
 
--- i is the index of the first byte that has no character
+-- there are characters up to the index i, and none begins there
 pub record IsFirstWithNone (charset : Charset) (bytes : List ℕ) (i : ℕ) : Type 0 where
   pub within : i < length bytes
-  pub none : HasNone charset (slice_index bytes i)
-  pub before : (k : ℕ) → k < i → ¬ HasNone charset (slice_index bytes k)
+  pub characters : List ℕ
+  pub before : BeginsWith charset bytes characters (drop i bytes)
+  pub none : front charset (drop i bytes) ≡ None
 
 -- what a fault says of the bytes
 abbrev pub IsUnmapped : Charset → List ℕ → DecodeFault → Type 0

@@ -1,5 +1,14 @@
 pub mod Tables
 pub mod Table
+pub mod EucJpRows
+pub mod EucJp8fRows
+pub mod EucKrRows
+pub mod Big5Rows
+pub mod Gb2312Rows
+pub mod GbkRows
+pub mod Grid
+pub mod GridOf
+pub mod Pairs
 pub mod CharsetNames
 pub mod Every
 pub mod Naming

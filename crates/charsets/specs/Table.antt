@@ -10,11 +10,13 @@ use Rattle.charsets.specs.declared.kinds.Charset.TheVariants.{Iso8859_15, Iso885
 use Rattle.charsets.specs.declared.kinds.Charset.TheVariants.{Koi8T, Cp850, Cp866, Cp874}
 use Rattle.charsets.specs.declared.kinds.Charset.TheVariants.{Cp1250, Cp1251, Cp1252, Cp1253}
 use Rattle.charsets.specs.declared.kinds.Charset.TheVariants.{Cp1254, Cp1256, Cp1257, Tis620}
-use Rattle.charsets.specs.declared.kinds.Charset.TheVariants.{GeorgianPs}
+use Rattle.charsets.specs.declared.kinds.Charset.TheVariants.{GeorgianPs, EucJp, EucKr, Big5}
+use Rattle.charsets.specs.declared.kinds.Charset.TheVariants.{Gb2312, Gbk}
 use Rattle.charsets.specs.Tables.{ascii, iso8859_1, iso8859_2, iso8859_3, iso8859_4, iso8859_5, iso8859_6, iso8859_7}
 use Rattle.charsets.specs.Tables.{iso8859_8, iso8859_9, iso8859_13, iso8859_14, iso8859_15, iso8859_16, koi8r, koi8u}
 use Rattle.charsets.specs.Tables.{koi8t, cp850, cp866, cp874, cp1250, cp1251, cp1252, cp1253}
-use Rattle.charsets.specs.Tables.{cp1254, cp1256, cp1257, tis620, georgianps}
+use Rattle.charsets.specs.Tables.{cp1254, cp1256, cp1257, tis620, georgianps, eucjp, euckr, big5}
+use Rattle.charsets.specs.Tables.{gb2312, gbk}
 
 unfoldable pub table : Charset → List ℕ
 table Ascii = ascii
@@ -46,3 +48,8 @@ table Cp1256 = cp1256
 table Cp1257 = cp1257
 table Tis620 = tis620
 table GeorgianPs = georgianps
+table EucJp = eucjp
+table EucKr = euckr
+table Big5 = big5
+table Gb2312 = gb2312
+table Gbk = gbk

@@ -2,7 +2,7 @@
 ghost use Rattle.std.specs.Prelude.{◌≡◌};
 ghost use Rattle.charsets.specs.Every.{all};
 
-/// A charset with one byte for a character, the first 128 as in ASCII.
+/// A charset whose bytes below 128 are those of ASCII.
 #[derive(Clone, Copy, Debug, PartialEq, Eq)]
 pub enum Charset {
     /// ASCII.
@@ -63,6 +63,16 @@ pub enum Charset {
     Tis620,
     /// GEORGIAN-PS.
     GeorgianPs,
+    /// EUC-JP.
+    EucJp,
+    /// EUC-KR.
+    EucKr,
+    /// BIG5.
+    Big5,
+    /// GB2312.
+    Gb2312,
+    /// GBK.
+    Gbk,
 }
 
 /// Every charset.
@@ -96,6 +106,11 @@ const ALL: &[Charset] = &[
     Charset::Cp1257,
     Charset::Tis620,
     Charset::GeorgianPs,
+    Charset::EucJp,
+    Charset::EucKr,
+    Charset::Big5,
+    Charset::Gb2312,
+    Charset::Gbk,
 ];
 
 /// Every charset.

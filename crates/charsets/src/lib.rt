@@ -1,14 +1,17 @@
-//! Single-byte charsets, decoded to UTF-8.
+//! Charsets of one, two and three bytes for a character, decoded to UTF-8.
 #![tactic(auto)]
 
+mod grid;
+mod grids;
 mod kinds;
 mod names;
 mod naming;
 mod reading;
+mod rows;
 mod tables;
 #[cfg(test)]
 mod tests;
 
 pub use kinds::Charset;
 pub use naming::charset_of;
-pub use reading::{DecodeFault, char_of, decode};
+pub use reading::{DecodeFault, decode, front};

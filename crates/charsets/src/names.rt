@@ -250,6 +250,29 @@ const TIS620: &[&[u8]] = &[
 
 const GEORGIANPS: &[&[u8]] = &[b"GEORGIAN-PS"];
 
+const EUCJP: &[&[u8]] = &[
+    b"EUC-JP",
+    b"CSEUCPKDFMTJAPANESE",
+    b"EUCJP",
+    b"OSF00030010",
+    b"UJIS",
+];
+
+const EUCKR: &[&[u8]] = &[b"EUC-KR", b"CSEUCKR", b"EUCKR", b"OSF0004000A"];
+
+const BIG5: &[&[u8]] = &[
+    b"BIG5",
+    b"BIG-5",
+    b"BIG-FIVE",
+    b"BIGFIVE",
+    b"CN-BIG5",
+    b"CP950",
+];
+
+const GB2312: &[&[u8]] = &[b"GB2312", b"CN-GB", b"CSGB2312", b"EUC-CN", b"EUCCN"];
+
+const GBK: &[&[u8]] = &[b"GBK", b"CP936", b"GB13000", b"MS936", b"WINDOWS-936"];
+
 /// The names of a charset, GNU gettext's first.
 #[tactic(auto, unfolding(crate::specs::CharsetNames::names))]
 pub(crate) fn names(charset: Charset) -> &'static [&'static [u8]]
@@ -285,5 +308,10 @@ pub(crate) fn names(charset: Charset) -> &'static [&'static [u8]]
         Charset::Cp1257 => CP1257,
         Charset::Tis620 => TIS620,
         Charset::GeorgianPs => GEORGIANPS,
+        Charset::EucJp => EUCJP,
+        Charset::EucKr => EUCKR,
+        Charset::Big5 => BIG5,
+        Charset::Gb2312 => GB2312,
+        Charset::Gbk => GBK,
     }
 }

@@ -1,9 +1,11 @@
 //! Decoding.
-ghost use Rattle.std.specs.Prelude.{◌≡◌, MatchOption, MatchResult};
+ghost use Rattle.std.specs.Prelude.{◌≡◌, ◌<◌, ◌≤◌, IfSome, MatchResult, length};
 ghost use Rattle.std.specs.String.{string_bytes};
-ghost use Rattle.charsets.specs.Decoding.{HasNone, IsCharOf, IsDecoded, IsUnmapped};
+ghost use Rattle.charsets.specs.Decoding.{IsDecoded, IsUnmapped, front, is_before_two, of_three, of_two, sized};
+ghost use Rattle.std.specs.Char.{IsScalar};
 ghost use Rattle.charsets.specs.declared.reading.DecodeFault.TheVariants.{Memory};
 
+use crate::grids::{behind_8f, pairs};
 use crate::kinds::Charset;
 use crate::tables::table;
 use std::alloc::{AllocError, Allocator};
@@ -12,8 +14,9 @@ use thiserror::Error;
 /// Why bytes are not decoded.
 #[derive(Clone, Copy, Debug, PartialEq, Eq, Error)]
 pub enum DecodeFault {
-    /// The byte at this index is the first that the charset has no character for.
-    #[error("byte {0} has no character")]
+    /// At this index the charset has no character: there are characters up to it, and the bytes from it on begin with
+    /// none, as where they end within one.
+    #[error("no character at byte {0}")]
     NoCharacter(usize),
     /// An allocation failed; this says nothing about the bytes.
     #[error("out of memory")]
@@ -28,18 +31,70 @@ impl From<AllocError> for DecodeFault {
     }
 }
 
-/// The character of a byte, if the charset has one.
-pub fn char_of(charset: Charset, byte: u8) -> Option<char>
-    ensures { MatchOption result (HasNone charset byte) (IsCharOf charset byte) }
+/// The character of a code point, which isn't one if it is 0, and the size of its run of bytes.
+fn sized(code: u16, size: usize) -> Option<(char, usize)>
+    requires { IsScalar code }
+    ensures { result ≡ sized code size }
 {
-    if byte < 128 {
-        return Some(char::from(byte));
+    if code == 0 {
+        return None;
     }
-    let c = table(charset)[byte as usize - 128];
-    if c == '\0' { None } else { Some(c) }
+    match char::from_u32(u32::from(code)) {
+        Some(c) => Some((c, size)),
+        None => None,
+    }
 }
 
-/// The bytes as UTF-8: the character of each, in order.
+/// The character of the byte 8F and two of these bytes.
+fn of_three(bytes: &[u8]) -> Option<(char, usize)>
+    ensures { result ≡ of_three bytes.now }
+{
+    match bytes {
+        [second, third, ..] => sized(behind_8f().cell(*second, *third), 3),
+        _ => None,
+    }
+}
+
+/// The character of a first byte and one of these bytes.
+fn of_two(charset: Charset, first: u8, bytes: &[u8]) -> Option<(char, usize)>
+    ensures { result ≡ of_two charset first bytes.now }
+{
+    match bytes {
+        [second, ..] => sized(pairs(charset, first).cell(first, *second), 2),
+        _ => None,
+    }
+}
+
+/// Whether two more bytes follow this one.
+fn is_before_two(charset: Charset, byte: u8) -> bool
+    ensures { result ≡ is_before_two charset byte }
+{
+    match charset {
+        Charset::EucJp => byte == 0x8F,
+        _ => false,
+    }
+}
+
+/// The character at the front of bytes and the number of its bytes, if the charset has one there.
+pub fn front(charset: Charset, bytes: &[u8]) -> Option<(char, usize)>
+    ensures value { result ≡ front charset bytes.now }
+    ensures size { IfSome result (λ found. (0 < found.1) × (found.1 ≤ length bytes.now)) }
+{
+    let (first, bytes) = bytes.split_first()?;
+    if *first < 128 {
+        return Some((char::from(*first), 1));
+    }
+    let c = table(charset)[*first as usize - 128];
+    if c != '\0' {
+        Some((c, 1))
+    } else if is_before_two(charset, *first) {
+        of_three(bytes)
+    } else {
+        of_two(charset, *first, bytes)
+    }
+}
+
+/// The bytes as UTF-8: their characters, in order.
 pub fn decode<A: Allocator>(
     alloc: A,
     charset: Charset,
@@ -48,11 +103,15 @@ pub fn decode<A: Allocator>(
     ensures { MatchResult result (λ text. IsDecoded charset bytes.now (string_bytes text))
         (λ fault. IsUnmapped charset bytes.now fault) }
 {
-    let mut text = String::new(alloc);
-    'bytes: for (i, byte) in bytes.iter().enumerate() {
-        match char_of(charset, *byte) {
-            Some(c) => text.push(c)?,
-            None => return Err(DecodeFault::NoCharacter(i)),
+    let mut text = String::with_capacity(alloc, bytes.len())?;
+    let mut at = 0;
+    'characters: while at < bytes.len() {
+        match front(charset, &bytes[at..]) {
+            Some((c, size)) => {
+                text.push(c)?;
+                at += size;
+            }
+            None => return Err(DecodeFault::NoCharacter(at)),
         }
     }
     Ok(text)

@@ -38,7 +38,7 @@ fn each_reason_of_a_po_text() {
             "duplicate message",
         ),
         (
-            "msgid \"\"\nmsgstr \"charset=EUC-JP\\n\"\n",
+            "msgid \"\"\nmsgstr \"charset=EUC-TW\\n\"\n",
             PoCharset,
             1,
             "unsupported charset",
@@ -118,7 +118,7 @@ fn each_reason_of_an_mo_file() {
         "keys out of order",
     );
     refuses_mo(
-        &mo_file(&[(b"", b"charset=EUC-JP\n")]),
+        &mo_file(&[(b"", b"charset=EUC-TW\n")]),
         Kind::MoCharset,
         "unsupported charset",
     );
