@@ -277,9 +277,8 @@ typedef struct {
 typedef struct kob_format_faults kob_format_faults;
 
 /* List the faults of the formats in the PO file in `bytes`, as `msgfmt --check-format` of GNU gettext finds them: of
- * each entry that is flagged `python-format`, `python-brace-format`, `java-format`, `javascript-format`, `sh-format`,
- * `qt-format`, `qt-plural-format`, `kde-format`, `perl-format`, `perl-brace-format`, `php-format` or `ycp-format` and
- * that is in the catalogue with these options, of which KOB_STRICT doesn't count. Formats of C are checked by
+ * each entry that is flagged as formats of a language in the list that kob_check_formats(3) has, and that is in the
+ * catalogue with these options, of which KOB_STRICT doesn't count. Formats of C are checked by
  * kob_open_po with KOB_CHECKED. Return the list, which may be empty, and which the caller frees with
  * kob_format_faults_free. If the file is refused, return NULL and store the reason in *why, as kob_open_po does; of an
  * entry's content nothing else is checked. */

@@ -20,7 +20,7 @@ static const char *const portable[] = {
     "ISO-8859-8", "ISO_8859-8", "ISO-8859-9", "ISO_8859-9", "ISO-8859-13", "ISO_8859-13", "ISO-8859-14",
     "ISO_8859-14", "ISO-8859-15", "ISO_8859-15", "KOI8-R", "KOI8-U", "KOI8-T", "CP850", "CP866", "CP874", "CP1250",
     "CP1251", "CP1252", "CP1253", "CP1254", "CP1256", "CP1257", "GB2312", "EUC-JP", "EUC-KR", "BIG5", "GBK",
-    "SHIFT_JIS", "TIS-620", "GEORGIAN-PS"};
+    "TIS-620", "GEORGIAN-PS"};
 
 static bool is_portable(const char *name, size_t len) {
     for (size_t i = 0; i < sizeof portable / sizeof *portable; i++)

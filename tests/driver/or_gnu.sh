@@ -10,8 +10,8 @@ mkdir tmp po nothing
 export TMPDIR=$room/tmp
 
 { header UTF-8 fr && printf 'msgid "hi"\nmsgstr "\303\240 toi"\n'; } > ours.po
-{ header EUC-JP de && printf 'msgid "hi"\nmsgstr "hallo"\n'; } > charset.po
-{ header EUC-JP ja && printf 'msgid "hi"\nmsgstr "\244\242"\n'; } > japanese.po
+{ header EUC-TW de && printf 'msgid "hi"\nmsgstr "hallo"\n'; } > charset.po
+{ header EUC-TW zh_TW && printf 'msgid "hi"\nmsgstr "\304\343"\n'; } > chinese.po
 { header UTF-8 de && printf 'msgid "hi"\nmsgstr "gr\374\337e"\n'; } > bytes.po
 { header UTF-8 fr && printf '#, c-format\nmsgid "%%<PRId64> B"\nmsgstr "%%<PRId64> o"\n'; } > system.po
 { header UTF-8 fr && printf 'msgid "hi"\nmsgstr "x"\nmsgid "hi"\nmsgstr "y"\n'; } > twice.po
@@ -47,8 +47,8 @@ who_compiles() {
     "$gnu" -c -o x.mo errno.po
   is_of "${as}no such file" 'GNU\t1\tNo such file or directory\tnone.po' $none "$gnu" -o x.mo none.po
   is_of "${as}a folder" 'GNU\t1\tIs a directory\tpo' $none "$gnu" -o x.mo po
-  is_of "${as}a charset" 'GNU\t0\tcharset=EUC-JP\tcharset.po' $none "$gnu" -c --statistics -o x.mo charset.po
-  is_of "${as}a charset and its bytes" 'GNU\t0\tcharset=EUC-JP\tjapanese.po' $none "$gnu" -c -o x.mo japanese.po
+  is_of "${as}a charset" 'GNU\t0\tcharset=EUC-TW\tcharset.po' $none "$gnu" -c --statistics -o x.mo charset.po
+  is_of "${as}a charset and its bytes" 'GNU\t0\tcharset=EUC-TW\tchinese.po' $none "$gnu" -c -o x.mo chinese.po
   is_of "${as}bytes that are not of the charset" 'GNU\t1\tnot UTF-8\tbytes.po' $none "$gnu" -o x.mo bytes.po
   is_of "${as}system-dependent" 'ours\t0\t-\tsystem.po' $none "$gnu" --no-hash -o x.mo system.po
   is_of "${as}newlines without -c" 'GNU\t1\tnewlines differ\tnewline.po' $none "$gnu" -o x.mo newline.po
@@ -63,10 +63,10 @@ who_compiles() {
   is_of "${as}no PO file" 'GNU\t1\tno PO file is named\t(none)' $none "$gnu" -o x.mo
   is_of "${as}a bad option" 'GNU\t1\tbad option --nope\tours.po' $none "$gnu" --nope ours.po
   is_of "${as}a bad letter" 'GNU\t1\tbad option -q\tours.po' $none "$gnu" -cq ours.po
-  is_of "${as}after --" 'GNU\t0\tcharset=EUC-JP\t-dash.po' $none "$gnu" -o x.mo -- -dash.po
+  is_of "${as}after --" 'GNU\t0\tcharset=EUC-TW\t-dash.po' $none "$gnu" -o x.mo -- -dash.po
   is_of "${as}standard input, ours" 'ours\t0\t-\t-' ours.po "$program" -o - -
-  is_of "${as}standard input, GNU's" 'GNU\t0\tcharset=EUC-JP\t-' charset.po "$gnu" -o - -
-  is_of "${as}standard input by its name" 'GNU\t0\tcharset=EUC-JP\t/dev/stdin' charset.po \
+  is_of "${as}standard input, GNU's" 'GNU\t0\tcharset=EUC-TW\t-' charset.po "$gnu" -o - -
+  is_of "${as}standard input by its name" 'GNU\t0\tcharset=EUC-TW\t/dev/stdin' charset.po \
     "$gnu" -co x.mo /dev/stdin
   is_of "${as}-C and messages left out" 'GNU\t1\t-C and a fuzzy message\tmixed.po' $none "$gnu" -C -o x.mo mixed.po
 }
@@ -85,7 +85,7 @@ fi
 if "$top/tests/lib/needs" valgrind valgrind libc6-dbg && (cd "$top" && tools/build_driver "$room/plain" -g) 2> gcc; then
   driver=$room/plain under=(valgrind -q --error-exitcode=99 --child-silent-after-fork=yes)
   is_of 'driver in valgrind, ours' 'ours\t0\t-\tmixed.po' /dev/null "$program" -c --statistics -o x.mo mixed.po
-  is_of "driver in valgrind, GNU's" 'GNU\t0\tcharset=EUC-JP\t-' charset.po "$gnu" -o - -
+  is_of "driver in valgrind, GNU's" 'GNU\t0\tcharset=EUC-TW\t-' charset.po "$gnu" -o - -
   is_of 'driver in valgrind, a refusal' 'GNU\t1\tduplicate message\ttwice.po' /dev/null "$gnu" -o x.mo twice.po
 else
   skipped 'driver in valgrind' 'no valgrind, and it could not be installed'
@@ -256,7 +256,7 @@ pipes() {
   else failed "driver, a pipe of bash, $1" "status $status, '$(cat err)'"; fi
 }
 pipes ours ours.po "$program" 'ours\t0\t-'
-pipes "GNU's" charset.po "$gnu" 'GNU\t0\tcharset=EUC-JP'
+pipes "GNU's" charset.po "$gnu" 'GNU\t0\tcharset=EUC-TW'
 pipes 'refused' escape.po "$gnu" 'GNU\t0\tbad escape'
 
 # closed NAME STATUS COMMAND: the driver's status with a stream closed
@@ -345,8 +345,8 @@ missing='msgfmt-or-gnu: no GNU msgfmt on the PATH to run in its place'
 needed='this needs GNU msgfmt, and there is none on the PATH; it is in the package gettext'
 found 'no GNU msgfmt and none is needed' 0 '' -o x.mo ours.po
 found 'no GNU msgfmt, a charset' 1 "charset.po:1: unsupported charset
-$missing (charset=EUC-JP); it is in the package gettext" -o x.mo charset.po
-logs 'driver, no GNU msgfmt, the log' 'ours\t1\tcharset=EUC-JP; no GNU msgfmt\tcharset.po'
+$missing (charset=EUC-TW); it is in the package gettext" -o x.mo charset.po
+logs 'driver, no GNU msgfmt, the log' 'ours\t1\tcharset=EUC-TW; no GNU msgfmt\tcharset.po'
 found 'no GNU msgfmt, a refusal' 1 "twice.po:6: duplicate message
 $missing (duplicate message); it is in the package gettext" -o x.mo twice.po
 found 'no GNU msgfmt, an option of its' 1 "msgfmt-or-gnu: --strict: $needed" --strict -o x.mo ours.po

@@ -1,12 +1,16 @@
 #!/usr/bin/env bash
-# PO texts in other charsets, which bin/msgfmt-or-gnu converts: what is written is what GNU msgfmt writes of the text that
-# iconv converts, byte for byte, for each charset that GNU gettext calls portable and that has one byte for a character.
+# PO texts in other charsets, which bin/msgfmt-or-gnu converts by libkobdzila: what is written is what GNU msgfmt writes of
+# the text that iconv converts, byte for byte, for each charset that the library decodes and that GNU gettext calls portable.
 . "$(dirname "$0")/../lib/common"
 NAME=or_gnu_charsets
 . tests/driver/begin
 cd "$room" || exit 1
 mkdir tmp
 export TMPDIR=$room/tmp
+if [ ! -f "$top/build/lib/libkobdzila.a" ]; then
+  skipped "$NAME" 'there is no build/lib/libkobdzila.a: tools/build_library makes it'
+  exit 0
+fi
 
 # converted NAME TEXT WORD..: the driver compiles TEXT with these options as GNU msgfmt compiles what iconv makes of it
 converted() {
@@ -40,6 +44,17 @@ for charset in ISO-8859-{1,2,3,4,5,6,7,8,9,13,14,15} ISO_8859-15 KOI8-{R,U,T} CP
   converted "$charset" all.po
 done
 
+# two bytes of which the second is a backslash in ASCII, before the closing quote and elsewhere
+{ header BIG5 zh_TW && printf 'msgid "a"\nmsgstr "\263\\\245\\n\273\\"\n'; } > big5.po
+converted 'BIG5, second bytes that are backslashes' big5.po -c
+{ header EUC-JP ja && printf 'msgid "a"\nmsgstr "\244\242 \216\261 \217\260\241"\n'; } > euc.po
+converted 'EUC-JP, kana of half a width and three bytes' euc.po -c
+for it in 'EUC-KR ko \260\241' 'GB2312 zh_CN \260\241' 'GBK zh_CN \201\\'; do
+  read -r charset language bytes <<< "${it//\\/\\\\}"
+  { header "$charset" "$language" && printf "msgid \"a\"\nmsgstr \"${bytes}\"\n"; } > wide.po
+  converted "$charset" wide.po -c
+done
+
 text ISO-8859-1 > latin.po
 converted 'checks and fuzzy messages' latin.po -c -f
 drive --statistics -v -o x.mo latin.po
@@ -71,9 +86,11 @@ printf 'msgid "a"\nmsgstr "\201"\n' >> byte.po
 is_of 'driver, a name that is not portable' 'GNU\t0\tcharset=latin1\tname.po' /dev/null "$gnu" -o x.mo name.po
 is_of 'driver, a byte that is no character' 'GNU\t1\ta byte that is no character\tbyte.po' /dev/null "$gnu" -o x.mo byte.po
 
-# the header isn't the first entry; another entry names a charset; lines end with CRLF; comments stand before the header
+# a header that isn't the first entry is GNU's
 { printf 'msgid "a"\nmsgstr "\374"\n\n' && header ISO-8859-1 de; } > late.po
-converted 'a header that comes late' late.po
+is_of 'driver, a header that comes late' 'GNU\t0\tcharset=ISO-8859-1\tlate.po' /dev/null "$gnu" -o x.mo late.po
+
+# another entry names a charset; lines end with CRLF; comments stand before the header
 { header ISO-8859-1 de && printf 'msgid "charset=latin1"\nmsgstr "charset=EUC-JP \374"\n'; } > other.po
 converted 'charset= outside of the header' other.po
 sed 's/$/\r/' latin.po > crlf.po

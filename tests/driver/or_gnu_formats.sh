@@ -74,6 +74,27 @@ fault 'JavaScript, numbers and none' javascript-format '%s %d' '%s %2$d' \
 fault 'Java, an object for a number' java-format '{0,number}' '{0}' "$differ"
 fault 'Java, a brace that closes nothing' java-format '{0}' '{0}}' \
   "'msgstr' is not a valid Java MessageFormat format string, unlike 'msgid'."
+fault 'java.util.Formatter, another kind' java-printf-format '%d %s' '%2$d %1$d' "$differ"
+fault 'java.util.Formatter, no conversion' java-printf-format '%d' '%1$y' \
+  "'msgstr' is not a valid Java printf format string, unlike 'msgid'."
+fault '.NET, one more' csharp-format '{0}' '{1}' "$differ"
+fault '.NET, no number' csharp-format '{0}' '{' "'msgstr' is not a valid C# format string, unlike 'msgid'."
+fault 'librep, a character' librep-format '%d' '%c' "$differ"
+fault 'librep, no conversion' librep-format '%d' '%y' "'msgstr' is not a valid librep format string, unlike 'msgid'."
+fault 'awk, another kind' awk-format '%d' '%s' "$differ"
+fault 'awk, no conversion' awk-format '%d' '%y' "'msgstr' is not a valid awk format string, unlike 'msgid'."
+fault 'Lua, another order' lua-format '%d %s' '%s %d' "$differ"
+fault 'Lua, no conversion' lua-format '%d' '%y' "'msgstr' is not a valid Lua format string, unlike 'msgid'."
+fault 'Object Pascal, another kind' object-pascal-format '%d %s' '%1:d %0:s' "$differ"
+fault 'Object Pascal, no conversion' object-pascal-format '%d' '%y' \
+  "'msgstr' is not a valid Object Pascal format string, unlike 'msgid'."
+fault 'Smalltalk, another number' smalltalk-format '%1' '%2' "$differ"
+fault 'Smalltalk, cut off' smalltalk-format '%1' '%' "'msgstr' is not a valid Smalltalk format string, unlike 'msgid'."
+fault 'KDE with markup, another number' kde-kuit-format '<b>%1</b>' '%2' "$differ"
+fault 'KDE with markup, not closed' kde-kuit-format '<b>%1</b>' '<b>%1' \
+  "'msgstr' is not a valid KDE KUIT format string, unlike 'msgid'."
+fault 'Tcl, another kind' tcl-format '%d' '%s' "$differ"
+fault 'Tcl, no conversion' tcl-format '%d' '%y' "'msgstr' is not a valid Tcl format string, unlike 'msgid'."
 fault 'the shell, another name' sh-format '$a' '${b}' "$differ"
 fault 'the shell, no name' sh-format '$a' '$a $1' "'msgstr' is not a valid Shell format string, unlike 'msgid'."
 
@@ -117,12 +138,21 @@ served 'no fault, KDE' ours kde-format '%1 %2' '%2 %1' -c
 served 'no fault, Perl' ours perl-brace-format '{a}' '{a} {b}' -c
 served 'no fault, JavaScript' ours javascript-format '%s %d' '%2$x %1$s' -c
 served 'no fault, Java' ours java-format '{0,number} {1}' '{1} {0,choice,0#no|1<{0}}' -c
+served 'no fault, java.util.Formatter' ours java-printf-format '%d %s' '%2$s %1$d' -c
+served 'no fault, .NET' ours csharp-format '{0} {1}' '{1,5} {0:X}' -c
+served 'no fault, librep' ours librep-format '%d %s' '%2$s %1$d' -c
+served 'no fault, awk' ours awk-format '%d %s' '%2$s %1$d' -c
+served 'no fault, Lua' ours lua-format '%d %s' '%5d %s' -c
+served 'no fault, Object Pascal' ours object-pascal-format '%d %s' '%1:s %0:d' -c
+served 'no fault, Smalltalk' ours smalltalk-format '%1 %2' '%2 %1' -c
+served 'no fault, KDE with markup' ours kde-kuit-format '<b>%1</b>' '<i a=\"%1\">&amp;</i>' -c
+served 'no fault, Tcl' ours tcl-format '%d %s' '%2$s %1$d' -c
 served 'fuzzy' ours 'fuzzy, python-format' '%d' '%s' -c
 served 'fuzzy and used' 'GNU\t1\tpython-format' 'fuzzy, python-format' '%d' '%s' -c -f
 served 'untranslated' ours python-format '%d' '' -c
 served 'denied' ours 'python-format, no-python-format' '%d' '%s' -c
 served 'possible' 'GNU\t1\tpython-format' possible-python-format '%d' '%s' -c
-served 'with another language' 'GNU\t0\tsmalltalk-format' 'python-format, smalltalk-format' '%d' '%d' -c
+served 'with another language' 'GNU\t0\tlisp-format' 'python-format, lisp-format' '%d' '%d' -c
 served 'with a range' 'GNU\t0\tpython-format' 'python-format, range: 0..3' '%d' '%d' -c
 served 'an original that is none' ours python-format '100 %' '%d' -c
 

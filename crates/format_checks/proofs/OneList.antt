@@ -21,13 +21,14 @@ use Rattle.php_format.specs.PhpFormat as php_format
 use Rattle.php_format.proofs.PhpDirectiveLemmas as php_lemmas
 use Rattle.format_flags.specs.declared.languages.Language.{Language}
 use Rattle.format_flags.specs.declared.languages.Language.TheVariants.{Python, PythonBrace, Shell, PerlBrace, Php}
-use Rattle.format_flags.specs.declared.languages.Language.TheVariants.{Java, JavaPrintf, CSharp}
+use Rattle.format_flags.specs.declared.languages.Language.TheVariants.{Java, JavaPrintf, CSharp, Librep, KdeKuit}
 use Rattle.named_formats.specs.declared.Notation.{Notation as Names}
 use Rattle.named_formats.specs.declared.Notation.TheVariants as names
 use Rattle.named_formats.specs.NameDirectives as name_directives
 use Rattle.named_formats.specs.NameFormat as named_formats
 use Rattle.named_formats.proofs.NameDirectiveLemmas as name_lemmas
 use Rattle.numbered_formats.specs.declared.Notation.{Notation as Numbers}
+use Rattle.numbered_formats.specs.declared.Notation.TheVariants as numbers
 use Rattle.numbered_formats.specs.NumberDirectives as number_directives
 use Rattle.numbered_formats.specs.NumberFormat as numbered_formats
 use Rattle.numbered_formats.proofs.NumberDirectiveLemmas as number_lemmas
@@ -39,6 +40,7 @@ use Rattle.script_formats.proofs.ScriptDirectiveLemmas as script_lemmas
 use Rattle.java_formats.proofs.ReadingLemmas.{one_list as one_of_java}
 use Rattle.java_printf_format.proofs.PrintfTextLemmas.{one_list as one_of_java_printf}
 use Rattle.csharp_format.proofs.CSharpTextLemmas.{one_list as one_of_csharp}
+use Rattle.librep_format.proofs.LibrepTextLemmas.{one_list as one_of_librep}
 use Rattle.format_checks.specs.declared.Difference.{Difference}
 use Rattle.format_checks.specs.declared.Difference.TheVariants.{Invalid, Arguments}
 use Rattle.format_checks.specs.declared.Fault.{Fault}
@@ -63,11 +65,18 @@ one_named Shell text a b x y = of_names names.Shell text a b x y
 one_named PerlBrace text a b x y = of_names names.PerlBrace text a b x y
 one_named _ text a b x y = absurd x
 
+of_numbers : (notation : Numbers) (text : List ℕ) (a b : List code_numbered.Numbered)
+    → numbered_formats.HasSignature notation text a → numbered_formats.HasSignature notation text b → a ≡ b
+of_numbers notation text a b x y = one_list_of percent (number_directives.DirectiveAt notation)
+    (number_lemmas.are_directives notation) requests_of (numbered_formats.fits notation) text a b x y
+
 one_other : (language : Language) (text : List ℕ) (a b : List code_numbered.Numbered) → ListsOther language text a
     → ListsOther language text b → a ≡ b
 one_other Java text a b x y = one_of_java text a b x y
 one_other JavaPrintf text a b x y = one_of_java_printf text a b x y
 one_other CSharp text a b x y = one_of_csharp text a b x y
+one_other Librep text a b x y = one_of_librep text a b x y
+one_other KdeKuit text a b x y = of_numbers numbers.Kde text a b x.1 y.1
 one_other Php text a b x y =
     one_list_of percent php.DirectiveAt php_lemmas.are_directives requests_of php_format.fits text a b x y
 one_other _ text a b x y = absurd x
@@ -82,8 +91,7 @@ one_by : (script : Option Scripts) (number : Option Numbers) (language : Languag
 one_by (Some notation) number language text a b x y = one_list_of script_directives.percent
     (script_directives.DirectiveAt notation) (script_lemmas.are_directives notation) script_asks
     (script_formats.fits notation) text a b x y
-one_by None (Some notation) language text a b x y = one_list_of percent (number_directives.DirectiveAt notation)
-    (number_lemmas.are_directives notation) requests_of (numbered_formats.fits notation) text a b x y
+one_by None (Some notation) language text a b x y = of_numbers notation text a b x y
 one_by None None language text a b x y = one_other language text a b x y
 
 one_arguments : (language : Language) (text : List ℕ) (a b : Asked) → Lists language text a

@@ -12,6 +12,7 @@ use Rattle.format_flags.specs.declared.languages.Language.{Language}
 use Rattle.format_flags.specs.declared.languages.Language.TheVariants.{Python, PythonBrace, Java, JavaPrintf, CSharp}
 use Rattle.format_flags.specs.declared.languages.Language.TheVariants.{JavaScript, Shell, Awk, Lua, ObjectPascal}
 use Rattle.format_flags.specs.declared.languages.Language.TheVariants.{Smalltalk, Qt, QtPlural, Kde, Tcl, Perl}
+use Rattle.format_flags.specs.declared.languages.Language.TheVariants.{Librep, KdeKuit}
 use Rattle.format_flags.specs.declared.languages.Language.TheVariants.{PerlBrace, Php, Ycp}
 use Rattle.python_format.specs.Format as python
 use Rattle.python_brace_format.specs.BraceFormat as brace
@@ -30,6 +31,8 @@ use Rattle.script_formats.specs.ScriptAgreement as script_agreement
 use Rattle.java_formats.specs.JavaFormat as java_formats
 use Rattle.java_printf_format.specs.PrintfFormat as java_printf
 use Rattle.csharp_format.specs.CSharpFormat as csharp
+use Rattle.librep_format.specs.LibrepFormat as librep
+use Rattle.kuit_formats.specs.KuitFormat as kuit
 use Rattle.csharp_format.specs.CSharpAgreement as csharp_agreement
 
 -- ---- arguments with names, or in the order of the text
@@ -78,6 +81,8 @@ abbrev pub ListsOther : Language → List ℕ → List code_numbered.Numbered �
 ListsOther Java text asked = java_formats.HasSignature text asked
 ListsOther JavaPrintf text asked = java_printf.HasSignature text asked
 ListsOther CSharp text asked = csharp.HasSignature text asked
+ListsOther Librep text asked = librep.HasSignature text asked
+ListsOther KdeKuit text asked = kuit.HasSignature text asked
 ListsOther Php text asked = php.HasSignature text asked
 ListsOther _ text asked = ⊥
 
@@ -94,6 +99,7 @@ FailsNumbered language text Memory = Unit {0}
 
 abbrev pub others_agree : Language → List code_numbered.Numbered → List code_numbered.Numbered → Strictness → Bool
 others_agree CSharp original translation rule = csharp_agreement.agree original translation rule
+others_agree KdeKuit original translation rule = number_agreement.agree numbers.Kde original translation rule
 others_agree _ original translation rule = numbered_arguments.agree original translation rule
 
 abbrev pub numbered_agree : Language → List code_numbered.Numbered → List code_numbered.Numbered → Strictness → Bool

@@ -96,6 +96,8 @@ fn numbered_arguments(
         Language::Java => java_formats::signature(alloc, text),
         Language::JavaPrintf => java_printf_format::signature(alloc, text),
         Language::CSharp => csharp_format::signature(alloc, text),
+        Language::Librep => librep_format::signature(alloc, text),
+        Language::KdeKuit => kuit_formats::signature(alloc, text),
         Language::Php => php_format::signature(alloc, text),
         _ => Err(FormatFault::Invalid),
     }
@@ -166,6 +168,9 @@ fn numbered_agree(
     }
     match language {
         Language::CSharp => Ok(csharp_format::agrees(original, translation, rule)),
+        Language::KdeKuit => {
+            numbered_formats::agrees(alloc, Numbers::Kde, original, translation, rule)
+        }
         _ => numbered_arguments::agrees(alloc, original, translation, rule),
     }
 }
