@@ -1,6 +1,6 @@
 #!/usr/bin/env bash
 # Builds small projects of CMake, Meson, the GNU build system, git's makefiles and Django through bin/msgfmt-or-gnu.
-# Each has a French catalogue, which Kobdzila's msgfmt compiles, and a German one in EUC-JP, which is GNU's. And
+# Each has a French catalogue, which Kobdzila's msgfmt compiles, and a German one in EUC-TW, which is GNU's. And
 # `make distcheck` with a link to the driver before GNU msgfmt on the PATH.
 . "$(dirname "$0")/../lib/common"
 NAME=or_gnu_builds
@@ -12,7 +12,7 @@ notes_calls "$driver"
 
 # german: a German PO file next to the French one, in another charset
 german() {
-  sed -e 's/^"Language: fr/"Language: de/' -e 's/UTF-8/EUC-JP/' -e 's/^msgstr "salut"/msgstr "gr\xa4\xa2e"/' \
+  sed -e 's/^"Language: fr/"Language: de/' -e 's/UTF-8/EUC-TW/' -e 's/^msgstr "salut"/msgstr "gr\xa4\xa2e"/' \
     -e 's/^msgstr "Salut"/msgstr "Gr\xa4\xa2e"/' po/fr.po > po/de.po
 }
 
@@ -27,7 +27,7 @@ built() {
   elif [ "$(hash_size "$fr")" != 00000000 ] || [ "$(hash_size "$de")" = 00000000 ]; then
     failed "$name" 'one of the two is of the other program'
   elif ! grep -q '^ours.0.-.*fr.*po$' "$MSGFMT_OR_GNU_LOG" ||
-    ! grep -q '^GNU.0.charset=EUC-JP.*de.*po$' "$MSGFMT_OR_GNU_LOG"; then
+    ! grep -q '^GNU.0.charset=EUC-TW.*de.*po$' "$MSGFMT_OR_GNU_LOG"; then
     failed "$name" "the log has '$(cat "$MSGFMT_OR_GNU_LOG")'"
   else
     ok "$name: $(grep -c ^ours "$MSGFMT_OR_GNU_LOG") ours, $(grep -c ^GNU "$MSGFMT_OR_GNU_LOG") GNU's"

@@ -17,7 +17,7 @@ mkdir tmp
 export TMPDIR=$room/tmp
 
 { header UTF-8 fr && printf 'msgid "hi"\nmsgstr "\303\240 toi"\n'; } > ours.po
-{ header EUC-JP de && printf 'msgid "hi"\nmsgstr "hallo"\n'; } > charset.po
+{ header EUC-TW de && printf 'msgid "hi"\nmsgstr "hallo"\n'; } > charset.po
 { cat ours.po && printf 'msgid "hi"\nmsgstr "y"\n'; } > twice.po
 { cat ours.po && printf '\nmsgid "e"\nmsgstr ""\n'; } > half.po
 printf 'msgid ""\nmsgstr "Content-Type: text/plain; charset=UTF-8\\n"\n\nmsgid "a"\nmsgstr "b"\n' > fields.po
