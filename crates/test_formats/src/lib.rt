@@ -12,6 +12,8 @@ mod csharp;
 #[cfg(test)]
 mod java;
 #[cfg(test)]
+mod java_printf;
+#[cfg(test)]
 mod macros;
 #[cfg(test)]
 mod named;

@@ -1,0 +1,2 @@
+pub mod PrintfDirectiveLemmas
+pub mod PrintfTextLemmas

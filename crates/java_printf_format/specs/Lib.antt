@@ -1,0 +1,4 @@
+pub mod PrintfConversions
+pub mod PrintfDirectives
+pub mod PrintfPlaces
+pub mod PrintfFormat
