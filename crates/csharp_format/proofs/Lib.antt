@@ -1,2 +1,3 @@
 pub mod CSharpItemLemmas
 pub mod CSharpTextLemmas
+pub mod CSharpAgreementLemmas

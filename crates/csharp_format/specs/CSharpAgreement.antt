@@ -5,11 +5,25 @@ use Rattle.format_arguments.specs.declared.Strictness.{Strictness}
 use Rattle.format_arguments.specs.declared.Strictness.TheVariants.{Same, Lenient}
 use Rattle.numbered_arguments.specs.declared.Numbered.{Numbered}
 
--- how many arguments a call has to pass, where the first has number 0; GNU gettext counts them modulo 2^32
+-- GNU gettext counts modulo 2^32
+abbrev pub passed_with : ℕ → Numbered → ℕ
+passed_with count a = if nat_lt a.number count then count else (a.number + 1) % 2 ^ 32
+
+-- how many arguments a call has to pass, where the first has number 0
 abbrev pub passed : List Numbered → ℕ
-passed asked = fold (λ count a. if nat_lt a.number count then count else (a.number + 1) % 2 ^ 32) 0 asked
+passed asked = fold passed_with 0 asked
 
 -- the calls pass as many; leniently, the translation may do with fewer
 abbrev pub agree : List Numbered → List Numbered → Strictness → Bool
 agree original translation Same = passed original == passed translation
 agree original translation Lenient = not (nat_lt (passed original) (passed translation))
+
+-- ---- what agreement says of the call
+
+-- the number doesn't wrap
+abbrev pub is_counted : Numbered → Bool
+is_counted a = nat_lt a.number 4294967295
+
+-- a call of this many arguments passes it
+abbrev pub is_passed : ℕ → Numbered → Bool
+is_passed count a = nat_lt a.number count

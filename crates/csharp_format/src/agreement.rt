@@ -1,5 +1,8 @@
 //! When the arguments of a translation agree with those of its original.
-ghost use Rattle.std.specs.Prelude.{◌≡◌};
+ghost use Rattle.std.specs.Prelude.{◌≡◌, List, true};
+ghost use Rattle.std.specs.List.{list_all};
+ghost use Rattle.format_arguments.specs.declared.Strictness.{Strictness as Rule};
+ghost use Rattle.numbered_arguments.specs.declared.Numbered.{Numbered as Asked};
 ghost use Rattle.csharp_format.specs.CSharpAgreement as spec;
 
 use format_arguments::Strictness;
@@ -29,3 +32,11 @@ pub fn agrees(original: &[Numbered], translation: &[Numbered], rule: Strictness)
         Strictness::Lenient => passed(translation) <= passed(original),
     }
 }
+
+/// A law, without code: where they agree, a call that passes as many arguments as the original needs passes each one
+/// that the translation asks for, unless a number is 4294967295.
+pub fn each_is_passed()
+    ensures { (original translation : List Asked) (rule : Rule) → spec.agree original translation rule ≡ true →
+        list_all spec.is_counted translation ≡ true →
+        list_all (spec.is_passed (spec.passed original)) translation ≡ true }
+{}

@@ -6,6 +6,6 @@ mod agreement;
 mod format;
 mod items;
 
-pub use agreement::agrees;
+pub use agreement::{agrees, each_is_passed};
 pub use format::{one_signature, signature};
 pub use numbered_arguments::{FormatFault, Kind, Numbered, Strictness};

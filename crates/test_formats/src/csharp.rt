@@ -1,5 +1,5 @@
 //! Tests of `csharp_format`: each call once, and what GNU msgfmt 0.21 says of formats and of pairs of formats.
-use csharp_format::{FormatFault, Strictness, agrees, one_signature, signature};
+use csharp_format::{FormatFault, Strictness, agrees, each_is_passed, one_signature, signature};
 
 /// Formats by which GNU msgfmt 0.21 compiles an entry, each with how many items ask for an argument.
 const VALID: &[(&str, usize)] = &[
@@ -102,4 +102,5 @@ fn compares_csharp_formats(rt: HostRuntime) {
             Some(*lenient)
         );
     }
+    each_is_passed();
 }

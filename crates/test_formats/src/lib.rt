@@ -17,7 +17,6 @@ mod java_printf;
 mod kuit;
 #[cfg(test)]
 mod librep;
-#[cfg(test)]
 mod macros;
 #[cfg(test)]
 mod named;
