@@ -37,6 +37,7 @@ OWN_WORDS = {
 # The parts of the GNU gettext manual that are cited, by the names that `info gettext NAME` and its pages have.
 PARTS = (
     "Ambiguities",
+    "Boost Format Strings",
     "C# Format Strings",
     "Contexts",
     "Header Entry",

@@ -19,7 +19,7 @@ star_of_within text None h p e = absurd (cc e)
 star_of_within text (Some x) h p e = some_is (Option Request) (argument x.0 (Some (Integer Plain)), x.1) p
     (length text) e (h x refl)
 
-amount_within : (text : List ℕ) → Within (Option Request) text (amount text)
+pub amount_within : (text : List ℕ) → Within (Option Request) text (amount text)
 amount_within [] p e = some_is (Option Request) (None, []) p 0 e (omega arith)
 amount_within (b ∷ more) p e = elim (cases_Bool (b == 42)) [
   | inl is ↦ omega (arith, star_of_within more (place more) (place_within more) p (rw is at e))
@@ -27,7 +27,7 @@ amount_within (b ∷ more) p e = elim (cases_Bool (b == 42)) [
       (rw other at e) (behind_within is_ascii_digit (b ∷ more))
 ]
 
-precision_within : (text : List ℕ) → Within (Option Request) text (precision text)
+pub precision_within : (text : List ℕ) → Within (Option Request) text (precision text)
 precision_within [] p e = some_is (Option Request) (None, []) p 0 e (omega arith)
 precision_within (b ∷ more) p e = elim (cases_Bool (b == 46)) [
   | inl is ↦ omega (arith, amount_within more p (rw is at e))

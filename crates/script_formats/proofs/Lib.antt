@@ -5,6 +5,7 @@ pub mod TclLemmas
 pub mod AwkLemmas
 pub mod LuaLemmas
 pub mod PascalLemmas
+pub mod BoostLemmas
 pub mod ScriptDirectiveLemmas
 pub mod AddingLemmas
 pub mod ScriptTextLemmas

@@ -3,7 +3,7 @@ use Rattle.std.proofs.Common.{◌≡◌, ℕ, ◌<◌, List, ◌∷◌, length, 
 use Rattle.std.specs.Prelude.{MatchOption, option_map}
 use Rattle.format_arguments.specs.Text.{AreDirectives}
 use Rattle.script_formats.specs.declared.Notation.{Notation}
-use Rattle.script_formats.specs.declared.Notation.TheVariants.{Perl, JavaScript, Tcl, Awk, Lua, ObjectPascal}
+use Rattle.script_formats.specs.declared.Notation.TheVariants.{Perl, JavaScript, Tcl, Awk, Lua, ObjectPascal, Boost}
 use Rattle.script_formats.specs.declared.directive.Directive.{Directive}
 use Rattle.script_formats.specs.ScriptDirectives.{percent, directive, DirectiveAt}
 use Rattle.script_formats.proofs.PartLemmas.{Within}
@@ -13,6 +13,7 @@ use Rattle.script_formats.proofs.TclLemmas as tcl
 use Rattle.script_formats.proofs.AwkLemmas as awk
 use Rattle.script_formats.proofs.LuaLemmas as lua
 use Rattle.script_formats.proofs.PascalLemmas as pascal
+use Rattle.script_formats.proofs.BoostLemmas as boost
 
 within : (notation : Notation) (text : List ℕ) → Within Directive text (directive notation text)
 within Perl text = perl.directive_within text
@@ -21,6 +22,7 @@ within Tcl text = tcl.directive_within text
 within Awk text = awk.directive_within text
 within Lua text = lua.directive_within text
 within ObjectPascal text = pascal.directive_within text
+within Boost text = boost.directive_within text
 
 directive_one : (notation : Notation) (d e : Directive) (text rest more : List ℕ) → DirectiveAt notation d text rest
     → DirectiveAt notation e text more → (d ≡ e) × (rest ≡ more)

@@ -6,7 +6,6 @@ use Rattle.format_arguments.specs.Text.{SkipsPlain}
 use Rattle.format_arguments.proofs.TextLemmas.{HasRead, read_nothing, reads_on}
 use Rattle.numbered_arguments.specs.declared.Numbered.{Numbered}
 use Rattle.numbered_arguments.specs.declared.Request.{Request}
-use Rattle.numbered_arguments.specs.NumberedArguments.{is_consistent}
 use Rattle.numbered_arguments.specs.NumberedText.{AsksFor}
 use Rattle.numbered_arguments.proofs.NumberedTextLemmas.{HasCounted, unreadable, asks_for, unfit}
 use Rattle.script_formats.specs.declared.Notation.{Notation}
@@ -15,6 +14,7 @@ use Rattle.script_formats.specs.declared.adding.Collected.{Collected}
 use Rattle.script_formats.specs.ScriptDirectives.{percent, DirectiveAt}
 use Rattle.script_formats.specs.Collecting.{asks, is_own, is_next, allows, HasCollected, Adds}
 use Rattle.script_formats.specs.ScriptFormat.{fits}
+use Rattle.script_formats.specs.ScriptKinds.{is_consistent_in}
 use Rattle.script_formats.proofs.ScriptDirectiveLemmas.{are_directives}
 
 -- up to rest the directives were read, and what they ask for was collected
@@ -51,13 +51,13 @@ reads_further notation text rest behind after d old new so_far plain x adds = re
 
 fits_is : (notation : Notation) (requests : List Request) (collected : Collected) (verdict : Bool)
     → HasCollected requests collected
-    → (is_consistent collected.numbering.asked.items && allows notation collected.used.own collected.used.next)
-    ≡ verdict → fits notation requests ≡ verdict
-fits_is notation requests collected verdict h e = ap (λ (asked : List Numbered). is_consistent asked
+    → (is_consistent_in notation collected.numbering.asked.items
+    && allows notation collected.used.own collected.used.next) ≡ verdict → fits notation requests ≡ verdict
+fits_is notation requests collected verdict h e = ap (λ (asked : List Numbered). is_consistent_in notation asked
     && allows notation (list_any is_own requests) (list_any is_next requests)) (sym h.numbered.asked)
-    ∙ ap (λ (own : Bool). is_consistent collected.numbering.asked.items
+    ∙ ap (λ (own : Bool). is_consistent_in notation collected.numbering.asked.items
     && allows notation own (list_any is_next requests)) (sym h.used.own)
-    ∙ ap (λ (next : Bool). is_consistent collected.numbering.asked.items
+    ∙ ap (λ (next : Bool). is_consistent_in notation collected.numbering.asked.items
     && allows notation collected.used.own next) (sym h.used.next)
     ∙ e
 
@@ -71,7 +71,8 @@ no_format notation text rest behind collected so_far = unreadable percent (Direc
 
 pub is_format : (notation : Notation) (text rest : List ℕ) (collected : Collected)
     → HasReadTo notation text rest collected → SkipsPlain percent rest []
-    → (is_consistent collected.numbering.asked.items && allows notation collected.used.own collected.used.next) ≡ true
+    → (is_consistent_in notation collected.numbering.asked.items
+    && allows notation collected.used.own collected.used.next) ≡ true
     → AsksFor percent (DirectiveAt notation) asks (fits notation) text collected.numbering.asked.items
 is_format notation text rest collected so_far end e = asks_for percent (DirectiveAt notation)
     (are_directives notation) asks (fits notation) text rest collected.numbering collected.numbering.asked.items
@@ -80,7 +81,8 @@ is_format notation text rest collected so_far end e = asks_for percent (Directiv
 
 pub misfits : (notation : Notation) (text rest : List ℕ) (collected : Collected)
     → HasReadTo notation text rest collected → SkipsPlain percent rest []
-    → (is_consistent collected.numbering.asked.items && allows notation collected.used.own collected.used.next) ≡ false
+    → (is_consistent_in notation collected.numbering.asked.items
+    && allows notation collected.used.own collected.used.next) ≡ false
     → (asked : List Numbered) → AsksFor percent (DirectiveAt notation) asks (fits notation) text asked → ⊥
 misfits notation text rest collected so_far end e = unfit percent (DirectiveAt notation)
     (are_directives notation) asks (fits notation) text rest collected.numbering

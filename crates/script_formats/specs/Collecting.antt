@@ -5,7 +5,7 @@ use Rattle.numbered_arguments.specs.declared.Request.{Request}
 use Rattle.numbered_arguments.specs.NumberedArguments.{list_of}
 use Rattle.numbered_arguments.specs.NumberingStates.{HasNumbered}
 use Rattle.script_formats.specs.declared.Notation.{Notation}
-use Rattle.script_formats.specs.declared.Notation.TheVariants.{JavaScript, Tcl, Awk}
+use Rattle.script_formats.specs.declared.Notation.TheVariants.{JavaScript, Tcl, Awk, Boost}
 use Rattle.script_formats.specs.declared.directive.Directive.{Directive}
 use Rattle.script_formats.specs.declared.adding.Used.{Used}
 use Rattle.script_formats.specs.declared.adding.Collected.{Collected}
@@ -26,6 +26,7 @@ abbrev pub allows : Notation → Bool → Bool → Bool
 allows JavaScript own next = not (own && next)
 allows Tcl own next = not (own && next)
 allows Awk own next = not (own && next)
+allows Boost own next = not (own && next)
 allows _ own next = true
 
 -- ---- the code's state

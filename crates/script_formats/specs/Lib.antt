@@ -5,7 +5,9 @@ pub mod TclDirectives
 pub mod AwkDirectives
 pub mod LuaDirectives
 pub mod PascalDirectives
+pub mod BoostDirectives
 pub mod ScriptDirectives
 pub mod Collecting
+pub mod ScriptKinds
 pub mod ScriptFormat
 pub mod ScriptAgreement

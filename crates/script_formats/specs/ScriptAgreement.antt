@@ -5,9 +5,11 @@ use Rattle.format_arguments.specs.declared.Strictness.TheVariants.{Same}
 use Rattle.numbered_arguments.specs.declared.Numbered.{Numbered}
 use Rattle.numbered_arguments.specs.NumberedArguments as arguments
 use Rattle.script_formats.specs.declared.Notation.{Notation}
-use Rattle.script_formats.specs.declared.Notation.TheVariants.{Lua}
+use Rattle.script_formats.specs.declared.Notation.TheVariants.{Lua, Boost}
+use Rattle.script_formats.specs.ScriptKinds.{settled}
 
--- Lua's are compared strictly always
+-- Lua's are compared strictly always, and Boost's by the types that each says
 abbrev pub agree : Notation → List Numbered → List Numbered → Strictness → Bool
 agree Lua original translation rule = arguments.agree original translation Same
+agree Boost original translation rule = arguments.agree (settled original) (settled translation) rule
 agree _ original translation rule = arguments.agree original translation rule

@@ -3,7 +3,7 @@ use Rattle.std.specs.Prelude.{◌≡◌, ℕ, List, ◌∷◌, Option, Some}
 use Rattle.numbered_arguments.specs.declared.Kind.{Kind}
 use Rattle.numbered_arguments.specs.declared.Request.{Request}
 use Rattle.script_formats.specs.declared.Notation.{Notation}
-use Rattle.script_formats.specs.declared.Notation.TheVariants.{Perl, JavaScript, Tcl, Awk, Lua, ObjectPascal}
+use Rattle.script_formats.specs.declared.Notation.TheVariants.{Perl, JavaScript, Tcl, Awk, Lua, ObjectPascal, Boost}
 use Rattle.script_formats.specs.declared.directive.Directive.{Directive}
 use Rattle.script_formats.specs.ScriptParts as parts
 use Rattle.script_formats.specs.PerlDirectives as perl
@@ -12,6 +12,7 @@ use Rattle.script_formats.specs.TclDirectives as tcl
 use Rattle.script_formats.specs.AwkDirectives as awk
 use Rattle.script_formats.specs.LuaDirectives as lua
 use Rattle.script_formats.specs.PascalDirectives as pascal
+use Rattle.script_formats.specs.BoostDirectives as boost
 
 abbrev pub percent : ℕ
 percent = 37
@@ -29,6 +30,7 @@ directive Tcl text = tcl.directive text
 directive Awk text = awk.directive text
 directive Lua text = lua.directive text
 directive ObjectPascal text = pascal.directive text
+directive Boost text = boost.directive text
 
 -- text is a `%` and this directive, followed by rest
 abbrev pub DirectiveAt : Notation → Directive → List ℕ → List ℕ → Type 0

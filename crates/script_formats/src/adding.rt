@@ -33,8 +33,8 @@ impl Used {
         ensures { result ≡ spec.allows notation self.own self.next }
     {
         match notation {
-            Notation::JavaScript | Notation::Tcl | Notation::Awk => !(self.own && self.next),
-            _ => true,
+            Notation::Perl | Notation::Lua | Notation::ObjectPascal => true,
+            _ => !(self.own && self.next),
         }
     }
 }

@@ -9,7 +9,7 @@ use byte_text::split_byte;
 use numbered_arguments::{Kind, Request, Size, skip_digits};
 
 /// Reads `*`, `*m$` or digits, or nothing. None: m is 0.
-fn read_amount(text: &[u8]) -> Option<(Option<Request>, &[u8])>
+pub(crate) fn read_amount(text: &[u8]) -> Option<(Option<Request>, &[u8])>
     ensures { option_map (λ found. (found.0, found.1.now)) result ≡ spec.amount text.now }
 {
     match split_byte(text) {
@@ -24,7 +24,7 @@ fn read_amount(text: &[u8]) -> Option<(Option<Request>, &[u8])>
     }
 }
 
-fn read_precision(text: &[u8]) -> Option<(Option<Request>, &[u8])>
+pub(crate) fn read_precision(text: &[u8]) -> Option<(Option<Request>, &[u8])>
     ensures { option_map (λ found. (found.0, found.1.now)) result ≡ spec.precision text.now }
 {
     match split_byte(text) {

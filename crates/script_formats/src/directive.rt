@@ -3,7 +3,7 @@ ghost use Rattle.std.specs.Prelude.{◌≡◌, ◌∷◌, ℕ, List, MatchOption
 ghost use Rattle.script_formats.specs.declared.directive.Directive.{Directive as Value};
 ghost use Rattle.script_formats.specs.ScriptDirectives as spec;
 
-use crate::{Notation, awk, javascript, lua, pascal, perl, tcl};
+use crate::{Notation, awk, boost, javascript, lua, pascal, perl, tcl};
 use numbered_arguments::{Kind, Request};
 
 /// What a directive asks for, in this order.
@@ -58,6 +58,7 @@ fn read(notation: Notation, text: &[u8]) -> Option<(Directive, &[u8])>
         Notation::Awk => awk::read(text),
         Notation::Lua => lua::read(text),
         Notation::ObjectPascal => pascal::read(text),
+        Notation::Boost => boost::read(text),
     }
 }
 

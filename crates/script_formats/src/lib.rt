@@ -1,13 +1,16 @@
 //! Argument lists of formats whose directives are those of C's `printf` with changes of their own: Perl's,
-//! JavaScript's, Tcl's, awk's, Lua's and Object Pascal's (GNU gettext manual, "Perl Format Strings" and so on).
+//! JavaScript's, Tcl's, awk's, Lua's, Object Pascal's and Boost's (GNU gettext manual, "Perl Format Strings" and so
+//! on).
 #![tactic(auto)]
 
 mod adding;
 mod agreement;
 mod awk;
+mod boost;
 mod directive;
 mod format;
 mod javascript;
+mod kinds;
 mod lua;
 mod parts;
 mod pascal;
@@ -34,4 +37,6 @@ pub enum Notation {
     Lua,
     /// Object Pascal's `Format`: `object-pascal-format`
     ObjectPascal,
+    /// Boost's `format`: `boost-format`
+    Boost,
 }

@@ -37,6 +37,15 @@ const VALID: &[(Notation, &str, usize)] = &[
     (Notation::ObjectPascal, "%*:s %-*.*f", 4),
     (Notation::ObjectPascal, "%*:8.*m", 2),
     (Notation::ObjectPascal, "%4294967296:s %s", 2),
+    (Notation::Boost, "%% %t %5T* %n", 0),
+    (Notation::Boost, "%1% %2$s %1$d", 3),
+    (Notation::Boost, "%c %C %s %S %i %e %p", 7),
+    (Notation::Boost, "%|s| %|| %|5.3| %|hx|", 4),
+    (Notation::Boost, "%|1$5t| %|2$T||", 0),
+    (Notation::Boost, "%2$*01$d", 2),
+    (Notation::Boost, "%-+ #0'_=hld", 1),
+    (Notation::Boost, "%.*Lf", 2),
+    (Notation::Boost, "%4294967297%", 1),
 ];
 
 /// Texts of which it says that they are "not a valid Perl format string", and so on.
@@ -111,6 +120,22 @@ const INVALID: &[(Notation, &str)] = &[
     (Notation::ObjectPascal, "%0:*s"),
     (Notation::ObjectPascal, "%**d"),
     (Notation::ObjectPascal, "%l"),
+    (Notation::Boost, "%"),
+    (Notation::Boost, "%0%"),
+    (Notation::Boost, "%01%"),
+    (Notation::Boost, "%4294967296$s"),
+    (Notation::Boost, "%|1%|"),
+    (Notation::Boost, "%s %1%"),
+    (Notation::Boost, "%1$d %1$f"),
+    (Notation::Boost, "%|d"),
+    (Notation::Boost, "%|ds|"),
+    (Notation::Boost, "%1$*d"),
+    (Notation::Boost, "%a"),
+    (Notation::Boost, "%F"),
+    (Notation::Boost, "%5h.3d"),
+    (Notation::Boost, "%T"),
+    (Notation::Boost, "%|T|"),
+    (Notation::Boost, "%1$%"),
 ];
 
 /// An original, a translation, and whether GNU msgfmt 0.21 accepts them: without a plural, and as the first of two
@@ -171,6 +196,18 @@ const PAIRS: &[(Notation, &str, &str, bool, bool)] = &[
     (Notation::ObjectPascal, "%*:s", "%d", true, true),
     (Notation::ObjectPascal, "%*:s", "%s", false, false),
     (Notation::ObjectPascal, "%-*.3d", "%u %D", true, true),
+    (Notation::Boost, "%1% %2%", "%2$s %1$s", true, true),
+    (Notation::Boost, "%1% %2%", "%1%", false, true),
+    (Notation::Boost, "%s", "%s %d", false, false),
+    (Notation::Boost, "%1%", "%1$d", false, false),
+    (Notation::Boost, "%1$d", "%1%", false, false),
+    (Notation::Boost, "%1% %1$d", "%1$x", true, true),
+    (Notation::Boost, "%1% %1$d", "%1%", false, false),
+    (Notation::Boost, "%hd", "%ld", true, true),
+    (Notation::Boost, "%c", "%s", false, false),
+    (Notation::Boost, "%*d", "%d %i", true, true),
+    (Notation::Boost, "%|5t|", "x", true, true),
+    (Notation::Boost, "%s", "%||", true, true),
 ];
 
 fn count(rt: &HostRuntime, notation: Notation, text: &str) -> Option<usize> {
