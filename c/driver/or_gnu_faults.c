@@ -38,6 +38,7 @@ static const struct language {
     {KOB_QT_PLURAL_FORMAT, "qt-plural-format", "Qt plural ", NULL, NULL},
     {KOB_KDE_FORMAT, "kde-format", "KDE ", NULL, NULL},
     {KOB_KDE_KUIT_FORMAT, "kde-kuit-format", "KDE KUIT ", NULL, NULL},
+    {KOB_BOOST_FORMAT, "boost-format", "Boost ", NULL, NULL},
     {KOB_TCL_FORMAT, "tcl-format", "Tcl ", NULL, NULL},
     {KOB_PERL_FORMAT, "perl-format", "Perl ", NULL, NULL},
     {KOB_PERL_BRACE_FORMAT, "perl-brace-format", "Perl brace ", NULL, NULL},

@@ -93,6 +93,8 @@ fault 'Smalltalk, cut off' smalltalk-format '%1' '%' "'msgstr' is not a valid Sm
 fault 'KDE with markup, another number' kde-kuit-format '<b>%1</b>' '%2' "$differ"
 fault 'KDE with markup, not closed' kde-kuit-format '<b>%1</b>' '<b>%1' \
   "'msgstr' is not a valid KDE KUIT format string, unlike 'msgid'."
+fault 'Boost, another kind' boost-format '%d' '%s' "$differ"
+fault 'Boost, not closed' boost-format '%|d|' '%|d' "'msgstr' is not a valid Boost format string, unlike 'msgid'."
 fault 'Tcl, another kind' tcl-format '%d' '%s' "$differ"
 fault 'Tcl, no conversion' tcl-format '%d' '%y' "'msgstr' is not a valid Tcl format string, unlike 'msgid'."
 fault 'the shell, another name' sh-format '$a' '${b}' "$differ"
@@ -146,6 +148,7 @@ served 'no fault, Lua' ours lua-format '%d %s' '%5d %s' -c
 served 'no fault, Object Pascal' ours object-pascal-format '%d %s' '%1:s %0:d' -c
 served 'no fault, Smalltalk' ours smalltalk-format '%1 %2' '%2 %1' -c
 served 'no fault, KDE with markup' ours kde-kuit-format '<b>%1</b>' '<i a=\"%1\">&amp;</i>' -c
+served 'no fault, Boost' ours boost-format '%1% %2%' '%2% %|1$s|' -c
 served 'no fault, Tcl' ours tcl-format '%d %s' '%2$s %1$d' -c
 served 'fuzzy' ours 'fuzzy, python-format' '%d' '%s' -c
 served 'fuzzy and used' 'GNU\t1\tpython-format' 'fuzzy, python-format' '%d' '%s' -c -f

@@ -163,16 +163,20 @@ never_named Shell text asked is x = absurd (cc is)
 never_named PerlBrace text asked is x = absurd (cc is)
 never_named _ text asked is x = x
 
+either : (language : Language) (text : List ℕ) → ((asked : List Argument) → ListsNamed language text asked → ⊥)
+    → ((asked : List code_numbered.Numbered) → ListsNumbered language text asked → ⊥) → (asked : Asked)
+    → Lists language text asked → ⊥
+either language text named numbered (Named asked) x = named asked x
+either language text named numbered (Numbered asked) x = numbered asked x
+
 pub no_named : (language : Language) (text : List ℕ) (fault : FormatFault) → is_named language ≡ true
     → FailsNamed language text fault → HasFault language text fault
-no_named language text Invalid is none (Named asked) x = none asked x
-no_named language text Invalid is none (Numbered asked) x = never_numbered language text asked is x
+no_named language text Invalid is none = either language text none (λ asked x. never_numbered language text asked is x)
 no_named language text Memory is none = none
 
 pub no_numbered : (language : Language) (text : List ℕ) (fault : FormatFault) → is_named language ≡ false
     → FailsNumbered language text fault → HasFault language text fault
-no_numbered language text Invalid is none (Named asked) x = never_named language text asked is x
-no_numbered language text Invalid is none (Numbered asked) x = none asked x
+no_numbered language text Invalid is none = either language text (λ asked x. never_named language text asked is x) none
 no_numbered language text Memory is none = none
 
 pub one_sort : (language : Language) (text : List ℕ) (a : List Argument) (b : List code_numbered.Numbered)

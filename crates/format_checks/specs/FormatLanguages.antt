@@ -12,7 +12,7 @@ use Rattle.format_flags.specs.declared.languages.Language.{Language}
 use Rattle.format_flags.specs.declared.languages.Language.TheVariants.{Python, PythonBrace, Java, JavaPrintf, CSharp}
 use Rattle.format_flags.specs.declared.languages.Language.TheVariants.{JavaScript, Shell, Awk, Lua, ObjectPascal}
 use Rattle.format_flags.specs.declared.languages.Language.TheVariants.{Smalltalk, Qt, QtPlural, Kde, Tcl, Perl}
-use Rattle.format_flags.specs.declared.languages.Language.TheVariants.{Librep, KdeKuit}
+use Rattle.format_flags.specs.declared.languages.Language.TheVariants.{Librep, KdeKuit, Boost}
 use Rattle.format_flags.specs.declared.languages.Language.TheVariants.{PerlBrace, Php, Ycp}
 use Rattle.python_format.specs.Format as python
 use Rattle.python_brace_format.specs.BraceFormat as brace
@@ -63,6 +63,7 @@ script_of JavaScript = Some scripts.JavaScript
 script_of Awk = Some scripts.Awk
 script_of Lua = Some scripts.Lua
 script_of ObjectPascal = Some scripts.ObjectPascal
+script_of Boost = Some scripts.Boost
 script_of Tcl = Some scripts.Tcl
 script_of Perl = Some scripts.Perl
 script_of _ = None

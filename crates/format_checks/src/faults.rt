@@ -103,6 +103,7 @@ const CHECKED: &[Language] = &[
     Language::QtPlural,
     Language::Kde,
     Language::KdeKuit,
+    Language::Boost,
     Language::Tcl,
     Language::Perl,
     Language::PerlBrace,

@@ -32,6 +32,9 @@ fn is_named(language: Language) -> bool
 }
 
 /// The arguments of a format with names.
+#[tactic(auto, using(
+    crate::proofs::Failing::python, crate::proofs::Failing::brace, crate::proofs::Failing::shell,
+    crate::proofs::Failing::perl_brace))]
 fn named_arguments(
     alloc: Global,
     language: Language,
@@ -57,6 +60,7 @@ fn script_of(language: Language) -> Option<Scripts>
         Language::Awk => Some(Scripts::Awk),
         Language::Lua => Some(Scripts::Lua),
         Language::ObjectPascal => Some(Scripts::ObjectPascal),
+        Language::Boost => Some(Scripts::Boost),
         Language::Tcl => Some(Scripts::Tcl),
         Language::Perl => Some(Scripts::Perl),
         _ => None,
@@ -77,7 +81,10 @@ fn number_of(language: Language) -> Option<Numbers>
 }
 
 /// The arguments of a format with numbers.
-#[tactic(auto, unfolding(crate::specs::FormatLanguages::ListsNumbered))]
+#[tactic(auto, using(
+    crate::proofs::Failing::script, crate::proofs::Failing::number, crate::proofs::Failing::java,
+    crate::proofs::Failing::java_printf, crate::proofs::Failing::csharp, crate::proofs::Failing::librep,
+    crate::proofs::Failing::kuit, crate::proofs::Failing::php))]
 fn numbered_arguments(
     alloc: Global,
     language: Language,
