@@ -1,0 +1,4 @@
+pub mod Calls
+pub mod Acts
+pub mod OneHistory
+pub mod Agreement

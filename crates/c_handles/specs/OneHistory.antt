@@ -1,0 +1,41 @@
+-- The law of handles: all calls on a store and on its readers are the steps of one legal history.
+use Rattle.std.specs.Prelude.{◌≡◌, ℕ, List, [], Some, MatchOption, map, slice_index_or, ⊤}
+use Rattle.std.specs.List.{AllZip, AllByRecursion}
+use Rattle.live_loads.specs.Batches.{StartsWith}
+use Rattle.live_loads.specs.Store.{StoreValue}
+use Rattle.live_versions.specs.History.{Event, opened, state_of, IsLegal}
+use Rattle.desks.specs.ServedHistory.{without_entries}
+use Rattle.life.specs.Life.{met}
+use Rattle.c_handles.specs.Calls.{Handles, Call, no_handles, IsTrace, store_in, view_in}
+use Rattle.c_handles.specs.Acts.{ReaderAct, work_in, acts_in, IsStepOf}
+
+-- the reader has this store's book
+abbrev pub IsReaderOf : StoreValue → Handles → ℕ → Type 0
+IsReaderOf s h reader = MatchOption (view_in (h.readers reader)) ⊥ (λ view. view.book ≡ s.seen.book)
+
+-- The agreement: what a reader with this store's book has seen is a beginning of what is published in the store.
+abbrev pub AreOfOneBook : StoreValue → Handles → Type 0
+AreOfOneBook s h = (reader : ℕ) → MatchOption (view_in (h.readers reader)) ⊤
+    (λ view. view.book ≡ s.seen.book → StartsWith s.seen.batches view.batches)
+
+-- the acts of some readers, each numbered by its place in the list; a number without a reader has no acts
+abbrev pub acts_of : List Call → List ℕ → ℕ → List ReaderAct
+acts_of trace readers place = slice_index_or (map (λ reader. acts_in reader trace) readers) place []
+
+-- The history is one of this store and these readers. It is legal, and ends with what is published and pending. The
+-- events that are no reader's are the loads and publishes of the trace, in order, as they were answered. The steps of
+-- each reader are its entries and what it was told, in order, with the texts of its look-ups.
+pub record IsHistoryOf (s : StoreValue) (store : ℕ) (trace : List Call) (readers : List ℕ) (history : List Event)
+    : Type 0 where
+  pub legal : IsLegal s.most history
+  pub batches : (state_of history).batches ≡ s.seen.batches
+  pub pending : (state_of history).pending ≡ s.pending
+  pub work_is : without_entries history ≡ work_in store trace
+  pub steps : (place : ℕ) → AllZip IsStepOf (acts_of trace readers place) (met place opened history)
+
+-- whatever a program does with its handles, each of its stores has one history with all of its readers
+abbrev pub HandlesHaveOneHistory : Type 0
+HandlesHaveOneHistory = (trace : List Call) (h : Handles) (store : ℕ) (s : StoreValue) (readers : List ℕ)
+    → IsTrace no_handles trace h → store_in (h.stores store) ≡ Some s → AreOfOneBook s h
+    → AllByRecursion (IsReaderOf s h) readers
+    → (history : List Event) × IsHistoryOf s store trace readers history
