@@ -4,4 +4,6 @@ pub mod Entries
 pub mod Answers
 pub mod ReaderActs
 pub mod Texts
+pub mod Books
+pub mod Provenance
 pub mod OneHistory

@@ -1,7 +1,7 @@
 -- The law of handles: the work of a store and the acts of its readers are put into one history.
 use Rattle.std.specs.List.{AllZip, AllByRecursion}
 use Rattle.std.specs.Prelude.{⊤, Option, None, Some, MatchOption}
-use Rattle.std.proofs.Common.{◌≡◌, ℕ, zero, suc, List, [], ◌∷◌, map, refl, subst}
+use Rattle.std.proofs.Common.{◌≡◌, ℕ, zero, suc, List, [], ◌∷◌, map, refl, sym, subst}
 use Rattle.live_set.specs.Loads.{LoadValue}
 use Rattle.live_loads.specs.Batches.{StartsWith}
 use Rattle.live_loads.specs.Seen.{SeenValue}
@@ -13,12 +13,15 @@ use Rattle.life.specs.Reached.{lists_of, HasWorked, HasActed, Reached}
 use Rattle.life.specs.Life.{met, IsLifeOf}
 use Rattle.life.specs.Life.{IsStepOf as IsLifeStep, acts_of as life_acts}
 use Rattle.life.proofs.OneLife.{one_life}
+use Rattle.c_answers.specs.Numbers.{memory_fault}
 use Rattle.c_sets.specs.Making.{any_reader_in}
 use Rattle.c_sets.specs.declared.sets.HeldSet.{HeldSet}
 use Rattle.c_handles.specs.Calls.{Handle, Unused, Open, Closed, Handles, Call, no_handles, IsTrace, store_in, view_in}
 use Rattle.c_stores.specs.declared.stores.HeldStore.{HeldStore}
 use Rattle.c_handles.specs.Acts.{ReaderAct, work_in, acts_in, IsStepOf}
-use Rattle.c_handles.specs.OneHistory.{IsReaderOf, AreOfOneBook, acts_of, HandlesHaveOneHistory}
+use Rattle.c_handles.specs.OneHistory.{IsReaderOf, HasBookOf, AreOfOneBook, acts_of}
+use Rattle.c_handles.specs.OneHistory.{HandlesHaveOneHistory}
+use Rattle.c_handles.proofs.Provenance.{readers_stay}
 use Rattle.c_handles.proofs.Work.{WorkedIn, Worked, work_all}
 use Rattle.c_handles.proofs.Entries.{ReaderLeadsAll, plain, plain_leads_all}
 use Rattle.c_handles.proofs.ReaderActs.{HasSeen, Leads, acts_lead}
@@ -31,22 +34,21 @@ worked_in work (Closed held) worked = worked
 
 -- ---- a reader of the store
 
-behind : (s : StoreValue) (b : List (List LoadValue)) (view : Option SeenValue) (fault : ℕ) (Or : Type 0)
-    → MatchOption view ⊥ (λ v. v.book ≡ s.seen.book)
+behind : (s : StoreValue) (b : List (List LoadValue)) (view : Option SeenValue) (fault : ℕ)
+    → MatchOption view ⊤ (λ v. v.book ≡ s.seen.book)
     → MatchOption view ⊤ (λ v. v.book ≡ s.seen.book → StartsWith s.seen.batches v.batches)
-    → MatchOption view Or (λ v. StartsWith v.batches b) → StartsWith s.seen.batches b
-behind s b None fault Or mine agrees seen = absurd mine
-behind s b (Some v) fault Or mine agrees seen = begins_trans s.seen.batches v.batches b (agrees mine) seen
+    → MatchOption view ((fault ≡ memory_fault) × (b ≡ [])) (λ v. StartsWith v.batches b) → StartsWith s.seen.batches b
+behind s b None fault mine agrees seen =
+    subst (λ (l : List (List LoadValue)). StartsWith s.seen.batches l) (sym seen.1) (begins_nil s.seen.batches)
+behind s b (Some v) fault mine agrees seen = begins_trans s.seen.batches v.batches b (agrees mine) seen
 
-settled : (s : StoreValue) (b : List (List LoadValue)) (x : Handle HeldSet)
-    → MatchOption (view_in x) ⊥ (λ v. v.book ≡ s.seen.book)
+settled : (s : StoreValue) (b : List (List LoadValue)) (x : Handle HeldSet) → HasBookOf s x
     → MatchOption (view_in x) ⊤ (λ v. v.book ≡ s.seen.book → StartsWith s.seen.batches v.batches) → HasSeen b x
     → StartsWith s.seen.batches b
-settled s b Unused mine agrees seen = absurd mine
-settled s b (Open held) mine agrees seen =
-    behind s b (any_reader_in held.origin) held.fault (held.fault ≡ 12) mine agrees seen
-settled s b (Closed held) mine agrees seen =
-    behind s b (any_reader_in held.origin) held.fault (held.fault ≡ 12) mine agrees seen
+settled s b Unused mine agrees seen =
+    subst (λ (l : List (List LoadValue)). StartsWith s.seen.batches l) (sym seen) (begins_nil s.seen.batches)
+settled s b (Open held) mine agrees seen = behind s b (any_reader_in held.origin) held.fault mine agrees seen
+settled s b (Closed held) mine agrees seen = behind s b (any_reader_in held.origin) held.fault mine agrees seen
 
 -- ---- all readers
 
@@ -57,7 +59,7 @@ record Acted (s : StoreValue) (acts : List ReaderAct) : Type 0 where
   pub behind : StartsWith s.seen.batches seen
 
 acted : (s : StoreValue) (trace : List Call) (h : Handles) (reader : ℕ) → IsTrace no_handles trace h → AreOfOneBook s h
-    → IsReaderOf s h reader → Acted s (acts_in reader trace)
+    → HasBookOf s (h.readers reader) → Acted s (acts_in reader trace)
 acted s trace h reader is agrees mine =
     let all : Leads [] (acts_in reader trace) (h.readers reader) = acts_lead [] reader trace no_handles h is refl in
     record { seen = all.0; leads = all.1; behind = settled s all.0 (h.readers reader) mine (agrees reader) all.2 }
@@ -71,7 +73,7 @@ record AllActed (s : StoreValue) (trace : List Call) (readers : List ℕ) : Type
       ≡ map plain (acts_of trace readers place)
 
 all_acted : (s : StoreValue) (trace : List Call) (h : Handles) (readers : List ℕ) → IsTrace no_handles trace h
-    → AreOfOneBook s h → AllByRecursion (IsReaderOf s h) readers → AllActed s trace readers
+    → AreOfOneBook s h → AllByRecursion (λ reader. HasBookOf s (h.readers reader)) readers → AllActed s trace readers
 all_acted s trace h [] is agrees mine = record {
   seen = [];
   acted = tt;
@@ -99,9 +101,17 @@ all_acted s trace h (r ∷ rs) is agrees mine =
       same rest zero = refl
       same rest (suc place) = rest.plain_acts place
 
+all_stay : (trace : List Call) (h : Handles) (store : ℕ) (s : StoreValue) (readers : List ℕ)
+    → IsTrace no_handles trace h → store_in (h.stores store) ≡ Some s → AllByRecursion (IsReaderOf store trace) readers
+    → AllByRecursion (λ reader. HasBookOf s (h.readers reader)) readers
+all_stay trace h store s [] is opened_as of = tt
+all_stay trace h store s (r ∷ rs) is opened_as of =
+    (readers_stay trace h store r s is opened_as of.0, all_stay trace h store s rs is opened_as of.1)
+
 pub handles_have_one_history : HandlesHaveOneHistory
-handles_have_one_history trace h store s readers is opened_as agrees mine =
-    let all : AllActed s trace readers = all_acted s trace h readers is agrees mine in
+handles_have_one_history trace h store s readers is opened_as agrees of =
+    let all : AllActed s trace readers = all_acted s trace h readers is agrees
+    (all_stay trace h store s readers is opened_as of) in
     let worked : HasWorked (work_in store trace) (lists_of s) = subst (λ (o : Option StoreValue).
     WorkedIn (work_in store trace) o) opened_as
     (worked_in (work_in store trace) (h.stores store) (work_all store trace no_handles h [] is refl)) in

@@ -27,7 +27,8 @@ use Rattle.c_handles.proofs.Answers.{IsIn, looks_answered}
 
 -- these batches, or more, have been seen; a reader that couldn't be made has a fault
 abbrev pub HasSeenIn : List (List LoadValue) → Origin → ℕ → Type 0
-HasSeenIn b origin fault = MatchOption (any_reader_in origin) (fault ≡ memory_fault) (λ r. StartsWith r.batches b)
+HasSeenIn b origin fault = MatchOption (any_reader_in origin) ((fault ≡ memory_fault) × (b ≡ []))
+    (λ r. StartsWith r.batches b)
 
 abbrev pub HasSeen : List (List LoadValue) → Handle HeldSet → Type 0
 HasSeen b Unused = b ≡ []
@@ -135,9 +136,9 @@ enters b version fault looks (Lent r) f new (later, none) numbers answers seen =
 enters b version fault looks (Left r set) f new is numbers answers seen =
     back b version fault looks r new seen is numbers answers
 enters b version fault looks (Made set) f new is numbers answers seen =
-    unmoved b None version fault looks (Made set) f new is numbers.fault_is seen seen
+    unmoved b None version fault looks (Made set) f new is numbers.fault_is seen.0 seen
 enters b version fault looks Refused f new is numbers answers seen =
-    unmoved b None version fault looks Refused f new is numbers.fault_is seen seen
+    unmoved b None version fault looks Refused f new is numbers.fault_is seen.0 seen
 
 enters_here : (b : List (List LoadValue)) (version fault : ℕ) (looks : List Look) (x y : Handle HeldSet)
     → IsOpen (λ old. IsOpen (EntersIn version fault old) y) x → AnswersIn looks y → HasSeen b x
@@ -195,9 +196,9 @@ enters_after b (Some n) version fault looks (Left r set) f new is numbers answer
     back_after b version fault looks r n new seen is numbers answers
 enters_after b notice version fault looks (Made set) f new is numbers answers seen =
     unmoved b (told_by_notice (record { notice = notice })) version fault looks (Made set) f new is numbers.fault_is
-    seen seen
+    seen.0 seen
 enters_after b notice version fault looks Refused f new is numbers answers seen =
-    unmoved b (told_by_notice (record { notice = notice })) version fault looks Refused f new is numbers.fault_is seen
+    unmoved b (told_by_notice (record { notice = notice })) version fault looks Refused f new is numbers.fault_is seen.0
     seen
 
 enters_after_here : (b : List (List LoadValue)) (n : HeldNotice) (told : Option ℕ) (version fault : ℕ)
@@ -228,11 +229,11 @@ made_at b (Some e) version fault looks (Lent r) f is numbers answers none =
     ) answers
 made_at b entrance version fault looks (Made set) f is numbers answers none =
     refused_for b (told_by_entrance (record { entrance = entrance })) version fault memory_fault looks
-    (Open (record { origin = Made set; fault = f })) (numbers.fault_is ∙ is.fault_is) refl is.fault_is
+    (Open (record { origin = Made set; fault = f })) (numbers.fault_is ∙ is.fault_is) refl (is.fault_is, none)
 made_at b entrance version fault looks (Left r set) f is numbers answers none = absurd (cc (is.refused))
 made_at b entrance version fault looks Refused f is numbers answers none =
     refused_for b (told_by_entrance (record { entrance = entrance })) version fault memory_fault looks
-    (Open (record { origin = Refused; fault = f })) (numbers.fault_is ∙ is.fault_is) refl is.fault_is
+    (Open (record { origin = Refused; fault = f })) (numbers.fault_is ∙ is.fault_is) refl (is.fault_is, none)
 
 made_here : (b : List (List LoadValue)) (e : HeldEntrance) (told : Option ℕ) (version fault : ℕ) (looks : List Look)
     (x y : Handle HeldSet) → IsUnused x → IsOpen (IsMadeAt e told version fault) y → AnswersIn looks y → HasSeen b x

@@ -82,27 +82,27 @@ load_with work s t domain locale map fault (inr (same, why, refused, is)) worked
     (λ (b : Bool). HasWorked (work ++ (if b then Accept (load_of domain locale map) ∷ [] else Refuse ∷ [])) (lists_of t))
     (sym fails) (refusal_keeps work s t worked same)
 
-loaded : (work : List Event) (domain locale : List ℕ) (opened : Opened) (catalogue : Option (Arc (List Entry) Global))
+loaded : (work : List Event) (domain locale : List ℕ) (file : Opened) (catalogue : Option (Arc (List Entry) Global))
     (p q : Option StoreValue) (before after : ℕ)
-    → IsLoaded (record { publisher = p; fault = before }) domain locale (record opened { catalogue = catalogue })
+    → IsLoaded (record { publisher = p; fault = before }) domain locale (record file { catalogue = catalogue })
     (record { publisher = q; fault = after }) → WorkedIn work p
-    → WorkedIn (work ++ load_events domain locale (record opened { catalogue = catalogue }) after) q
-loaded work domain locale opened catalogue p None before after is worked = tt
-loaded work domain locale opened catalogue None (Some t) before after is worked = absurd (cc (is.0))
-loaded work domain locale opened None (Some s) (Some t) before after is worked = refusal_keeps work s t worked is.0
-loaded work domain locale opened (Some shared) (Some s) (Some t) before after is worked =
+    → WorkedIn (work ++ load_events domain locale (record file { catalogue = catalogue }) after) q
+loaded work domain locale file catalogue p None before after is worked = tt
+loaded work domain locale file catalogue None (Some t) before after is worked = absurd (cc (is.0))
+loaded work domain locale file None (Some s) (Some t) before after is worked = refusal_keeps work s t worked is.0
+loaded work domain locale file (Some shared) (Some s) (Some t) before after is worked =
     load_with work s t domain locale (arc_value shared) after is worked
 
-loaded_here : (work : List Event) (domain locale : List ℕ) (opened : Opened) (fault : ℕ) (x y : Handle HeldStore)
-    → IsOpen (λ old. IsOpen (LoadsInto domain locale opened fault old) y) x → Worked work x
-    → Worked (work ++ load_events domain locale opened fault) y
-loaded_here work domain locale opened fault Unused y is worked = absurd is
-loaded_here work domain locale opened fault (Closed a) y is worked = absurd is
-loaded_here work domain locale opened fault (Open a) Unused is worked = absurd is
-loaded_here work domain locale opened fault (Open a) (Closed b) is worked = absurd is
-loaded_here work domain locale opened fault (Open a) (Open b) is worked =
-    subst (λ (n : ℕ). WorkedIn (work ++ load_events domain locale opened n) b.publisher) (sym (is.fault_is.fault refl))
-    (loaded work domain locale opened opened.catalogue a.publisher b.publisher a.fault b.fault is.loaded worked)
+loaded_here : (work : List Event) (domain locale : List ℕ) (file : Opened) (fault : ℕ) (x y : Handle HeldStore)
+    → IsOpen (λ old. IsOpen (LoadsInto domain locale file fault old) y) x → Worked work x
+    → Worked (work ++ load_events domain locale file fault) y
+loaded_here work domain locale file fault Unused y is worked = absurd is
+loaded_here work domain locale file fault (Closed a) y is worked = absurd is
+loaded_here work domain locale file fault (Open a) Unused is worked = absurd is
+loaded_here work domain locale file fault (Open a) (Closed b) is worked = absurd is
+loaded_here work domain locale file fault (Open a) (Open b) is worked =
+    subst (λ (n : ℕ). WorkedIn (work ++ load_events domain locale file n) b.publisher) (sym (is.fault_is.fault refl))
+    (loaded work domain locale file file.catalogue a.publisher b.publisher a.fault b.fault is.loaded worked)
 
 -- ---- a publish
 
@@ -194,12 +194,12 @@ work_step k h (OpensStore n fault) next work is worked =
     (λ same. quiet work (next k) (opened_here work fault (h.stores k) (next k)
     (here k n h.stores next (λ x y. IsUnused x) same is.unused)
     (here k n h.stores next (λ x y. IsOpen (λ s. IsNewStore s × HasFault s fault) y) same is.made) worked))
-work_step k h (Loads n domain locale opened fault) next work is worked =
+work_step k h (Loads n domain locale file fault) next work is worked =
     changed k n h.stores next
-    (λ (b : Bool) (x : Handle HeldStore). Worked (work ++ (if b then load_events domain locale opened fault else [])) x)
+    (λ (b : Bool) (x : Handle HeldStore). Worked (work ++ (if b then load_events domain locale file fault else [])) x)
     is.others (quiet work (h.stores k) worked)
-    (λ same. loaded_here work domain locale opened fault (h.stores k) (next k)
-    (here k n h.stores next (λ x y. IsOpen (λ old. IsOpen (LoadsInto domain locale opened fault old) y) x) same
+    (λ same. loaded_here work domain locale file fault (h.stores k) (next k)
+    (here k n h.stores next (λ x y. IsOpen (λ old. IsOpen (LoadsInto domain locale file fault old) y) x) same
     is.turned) worked)
 work_step k h (Publishes n fault) next work is worked =
     changed k n h.stores next

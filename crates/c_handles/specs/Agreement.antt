@@ -9,8 +9,8 @@ use Rattle.c_stores.specs.declared.stores.HeldStore.{HeldStore}
 use Rattle.c_stores.specs.declared.stores.HeldNotice.{HeldNotice}
 
 -- the reader, wherever it is, has the store's book
-abbrev pub HasBookOf : HeldStore → HeldSet → Type 0
-HasBookOf store reader = MatchOption store.publisher ⊤ (λ s. MatchOption (any_reader_in reader.origin) ⊤
+abbrev pub AreOfOneStore : HeldStore → HeldSet → Type 0
+AreOfOneStore store reader = MatchOption store.publisher ⊤ (λ s. MatchOption (any_reader_in reader.origin) ⊤
     (λ view. view.book ≡ s.seen.book))
 
 -- the reader is in exactly what is published in the store

@@ -1,22 +1,42 @@
 -- The law of handles: all calls on a store and on its readers are the steps of one legal history.
-use Rattle.std.specs.Prelude.{◌≡◌, ℕ, List, [], Some, MatchOption, map, slice_index_or, ⊤}
+use Rattle.std.specs.Prelude.{◌≡◌, ◌⊎◌, ℕ, List, [], ◌∷◌, Option, Some, MatchOption, map, slice_index_or, ⊤}
 use Rattle.std.specs.List.{AllZip, AllByRecursion}
 use Rattle.live_loads.specs.Batches.{StartsWith}
 use Rattle.live_loads.specs.Store.{StoreValue}
+use Rattle.c_sets.specs.declared.sets.HeldSet.{HeldSet}
 use Rattle.live_versions.specs.History.{Event, opened, state_of, IsLegal}
 use Rattle.desks.specs.ServedHistory.{without_entries}
 use Rattle.life.specs.Life.{met}
-use Rattle.c_handles.specs.Calls.{Handles, Call, no_handles, IsTrace, store_in, view_in}
+use Rattle.c_handles.specs.Calls.{Handle, Handles, Call, MakesEntrance, MakesReader, no_handles, IsTrace}
+use Rattle.c_handles.specs.Calls.{store_in, view_in}
 use Rattle.c_handles.specs.Acts.{ReaderAct, work_in, acts_in, IsStepOf}
 
--- the reader has this store's book
-abbrev pub IsReaderOf : StoreValue → Handles → ℕ → Type 0
-IsReaderOf s h reader = MatchOption (view_in (h.readers reader)) ⊥ (λ view. view.book ≡ s.seen.book)
+-- ---- the readers of a store
 
--- The agreement: what a reader with this store's book has seen is a beginning of what is published in the store.
+-- the call is one of these
+abbrev pub IsAmong : Call → List Call → Type 0
+IsAmong call [] = ⊥
+IsAmong call (other ∷ calls) = (other ≡ call) ⊎ IsAmong call calls
+
+-- the reader was made at an entrance of the store, or couldn't be made there
+pub record IsReaderOf (store : ℕ) (trace : List Call) (reader : ℕ) : Type 0 where
+  pub entrance : ℕ
+  pub told : Option ℕ
+  pub version : ℕ
+  pub fault : ℕ
+  pub to_store : IsAmong (MakesEntrance store entrance) trace
+  pub made : IsAmong (MakesReader entrance reader told version fault) trace
+
+-- what the reader of a handle has seen, if it could be made, is of this store
+abbrev pub HasBookOf : StoreValue → Handle HeldSet → Type 0
+HasBookOf s reader = MatchOption (view_in reader) ⊤ (λ view. view.book ≡ s.seen.book)
+
+-- The agreement: what each reader with this store's book has seen is a beginning of what is published in the store.
 abbrev pub AreOfOneBook : StoreValue → Handles → Type 0
 AreOfOneBook s h = (reader : ℕ) → MatchOption (view_in (h.readers reader)) ⊤
     (λ view. view.book ≡ s.seen.book → StartsWith s.seen.batches view.batches)
+
+-- ---- its history
 
 -- the acts of some readers, each numbered by its place in the list; a number without a reader has no acts
 abbrev pub acts_of : List Call → List ℕ → ℕ → List ReaderAct
@@ -33,9 +53,16 @@ pub record IsHistoryOf (s : StoreValue) (store : ℕ) (trace : List Call) (reade
   pub work_is : without_entries history ≡ work_in store trace
   pub steps : (place : ℕ) → AllZip IsStepOf (acts_of trace readers place) (met place opened history)
 
--- whatever a program does with its handles, each of its stores has one history with all of its readers
+-- ---- the laws
+
+-- a reader that was made at an entrance of a store stays in that store
+abbrev pub ReadersStay : Type 0
+ReadersStay = (trace : List Call) (h : Handles) (store reader : ℕ) (s : StoreValue) → IsTrace no_handles trace h
+    → store_in (h.stores store) ≡ Some s → IsReaderOf store trace reader → HasBookOf s (h.readers reader)
+
+-- whatever a program does with its handles, a store has one history with its readers, if they agree at the end
 abbrev pub HandlesHaveOneHistory : Type 0
 HandlesHaveOneHistory = (trace : List Call) (h : Handles) (store : ℕ) (s : StoreValue) (readers : List ℕ)
     → IsTrace no_handles trace h → store_in (h.stores store) ≡ Some s → AreOfOneBook s h
-    → AllByRecursion (IsReaderOf s h) readers
+    → AllByRecursion (IsReaderOf store trace) readers
     → (history : List Event) × IsHistoryOf s store trace readers history

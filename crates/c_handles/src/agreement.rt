@@ -1,6 +1,6 @@
 //! How a program with a store and one of its readers at hand sees that they agree.
 ghost use Rattle.std.specs.Prelude.{◌↔◌, IsTrue};
-ghost use Rattle.c_handles.specs.Agreement.{HasBookOf, HasMet, IsLevelWith};
+ghost use Rattle.c_handles.specs.Agreement.{AreOfOneStore, HasMet, IsLevelWith};
 
 use c_sets::{HeldSet, Origin};
 use c_stores::{HeldStore, enter_after, notice};
@@ -8,7 +8,7 @@ use c_stores::{HeldStore, enter_after, notice};
 /// Enters what is published in a store of this reader, or a later version. If the reader isn't told to be busy, both
 /// agree: what is published in the store is a beginning of what the reader has seen.
 pub fn meet(store: &HeldStore, reader: HeldSet) -> HeldSet
-    requires { HasBookOf store.now reader }
+    requires { AreOfOneStore store.now reader }
     ensures { HasMet store.now reader result }
 {
     let published = notice(store);
@@ -17,7 +17,7 @@ pub fn meet(store: &HeldStore, reader: HeldSet) -> HeldSet
 
 /// Whether a reader of this store is in exactly what is published in it. Then both agree.
 pub fn is_level(store: &HeldStore, reader: &HeldSet) -> bool
-    requires { HasBookOf store.now reader.now }
+    requires { AreOfOneStore store.now reader.now }
     ensures { IsTrue result ↔ IsLevelWith store.now reader.now }
 {
     let Some(publisher) = &store.publisher else {

@@ -1,5 +1,9 @@
 use Rattle.c_handles.proofs.OneHistory.{handles_have_one_history}
+use Rattle.c_handles.proofs.Provenance.{readers_stay}
 use Rattle.c_handles.proofs.law.handles_have_one_history.Goals as goal
 
-pub returns : goal.returns
-returns c = handles_have_one_history
+pub returns-clause-stay : goal.returns-clause-stay
+returns-clause-stay c = readers_stay
+
+pub returns-clause-history : goal.returns-clause-history
+returns-clause-history c = handles_have_one_history
