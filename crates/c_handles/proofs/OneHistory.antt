@@ -6,7 +6,7 @@ use Rattle.live_set.specs.Loads.{LoadValue}
 use Rattle.live_loads.specs.Batches.{StartsWith}
 use Rattle.live_loads.specs.Seen.{SeenValue}
 use Rattle.live_loads.specs.Store.{StoreValue}
-use Rattle.live_loads.proofs.Joining.{begins_nil, begins_trans}
+use Rattle.live_loads.proofs.Joining.{begins_nil, begins_refl, begins_trans}
 use Rattle.live_versions.specs.History.{Event, opened}
 use Rattle.life.specs.Acts.{Act}
 use Rattle.life.specs.Reached.{lists_of, HasWorked, HasActed, Reached}
@@ -20,7 +20,7 @@ use Rattle.c_handles.specs.Calls.{Handle, Unused, Open, Closed, Handles, Call, n
 use Rattle.c_stores.specs.declared.stores.HeldStore.{HeldStore}
 use Rattle.c_handles.specs.Acts.{ReaderAct, work_in, acts_in, IsStepOf}
 use Rattle.c_handles.specs.OneHistory.{IsReaderOf, HasBookOf, AreOfOneBook, acts_of}
-use Rattle.c_handles.specs.OneHistory.{HandlesHaveOneHistory}
+use Rattle.c_handles.specs.OneHistory.{LevelReadersAgree, HandlesHaveOneHistory}
 use Rattle.c_handles.proofs.Provenance.{readers_stay}
 use Rattle.c_handles.proofs.Work.{WorkedIn, Worked, work_all}
 use Rattle.c_handles.proofs.Entries.{ReaderLeadsAll, plain, plain_leads_all}
@@ -58,11 +58,11 @@ record Acted (s : StoreValue) (acts : List ReaderAct) : Type 0 where
   pub leads : ReaderLeadsAll [] acts seen
   pub behind : StartsWith s.seen.batches seen
 
-acted : (s : StoreValue) (trace : List Call) (h : Handles) (reader : ℕ) → IsTrace no_handles trace h → AreOfOneBook s h
-    → HasBookOf s (h.readers reader) → Acted s (acts_in reader trace)
-acted s trace h reader is agrees mine =
+acted : (s : StoreValue) (trace : List Call) (h : Handles) (reader : ℕ) → IsTrace no_handles trace h
+    → HasBookOf s (h.readers reader) → AreOfOneBook s h (reader ∷ []) → Acted s (acts_in reader trace)
+acted s trace h reader is mine agrees =
     let all : Leads [] (acts_in reader trace) (h.readers reader) = acts_lead [] reader trace no_handles h is refl in
-    record { seen = all.0; leads = all.1; behind = settled s all.0 (h.readers reader) mine (agrees reader) all.2 }
+    record { seen = all.0; leads = all.1; behind = settled s all.0 (h.readers reader) mine agrees.0 all.2 }
 
 record AllActed (s : StoreValue) (trace : List Call) (readers : List ℕ) : Type 0 where
   pub seen : List (List (List LoadValue))
@@ -73,17 +73,18 @@ record AllActed (s : StoreValue) (trace : List Call) (readers : List ℕ) : Type
       ≡ map plain (acts_of trace readers place)
 
 all_acted : (s : StoreValue) (trace : List Call) (h : Handles) (readers : List ℕ) → IsTrace no_handles trace h
-    → AreOfOneBook s h → AllByRecursion (λ reader. HasBookOf s (h.readers reader)) readers → AllActed s trace readers
-all_acted s trace h [] is agrees mine = record {
+    → AllByRecursion (λ reader. HasBookOf s (h.readers reader)) readers → AreOfOneBook s h readers
+    → AllActed s trace readers
+all_acted s trace h [] is mine agrees = record {
   seen = [];
   acted = tt;
   behind = tt;
   each = λ place. record { seen = []; leads = refl; behind = begins_nil s.seen.batches };
   plain_acts = λ place. refl;
 }
-all_acted s trace h (r ∷ rs) is agrees mine =
-    let one : Acted s (acts_in r trace) = acted s trace h r is agrees mine.0 in
-    let rest : AllActed s trace rs = all_acted s trace h rs is agrees mine.1 in
+all_acted s trace h (r ∷ rs) is mine agrees =
+    let one : Acted s (acts_in r trace) = acted s trace h r is mine.0 (agrees.0, tt) in
+    let rest : AllActed s trace rs = all_acted s trace h rs is mine.1 agrees.1 in
     record {
       seen = one.seen ∷ rest.seen;
       acted = (plain_leads_all [] (acts_in r trace) one.seen one.leads, rest.acted);
@@ -108,10 +109,21 @@ all_stay trace h store s [] is opened_as of = tt
 all_stay trace h store s (r ∷ rs) is opened_as of =
     (readers_stay trace h store r s is opened_as of.0, all_stay trace h store s rs is opened_as of.1)
 
+level_agrees : (s : StoreValue) (view : Option SeenValue) → MatchOption view ⊤ (λ v. v ≡ s.seen)
+    → MatchOption view ⊤ (λ v. v.book ≡ s.seen.book → StartsWith s.seen.batches v.batches)
+level_agrees s None level = tt
+level_agrees s (Some v) level = λ book. subst (λ (x : SeenValue). StartsWith s.seen.batches x.batches) (sym level)
+    (begins_refl s.seen.batches)
+
+pub level_readers_agree : LevelReadersAgree
+level_readers_agree s h [] level = tt
+level_readers_agree s h (r ∷ rs) level =
+    (level_agrees s (view_in (h.readers r)) level.0, level_readers_agree s h rs level.1)
+
 pub handles_have_one_history : HandlesHaveOneHistory
-handles_have_one_history trace h store s readers is opened_as agrees of =
-    let all : AllActed s trace readers = all_acted s trace h readers is agrees
-    (all_stay trace h store s readers is opened_as of) in
+handles_have_one_history trace h store s readers is opened_as of agrees =
+    let all : AllActed s trace readers = all_acted s trace h readers is
+    (all_stay trace h store s readers is opened_as of) agrees in
     let worked : HasWorked (work_in store trace) (lists_of s) = subst (λ (o : Option StoreValue).
     WorkedIn (work_in store trace) o) opened_as
     (worked_in (work_in store trace) (h.stores store) (work_all store trace no_handles h [] is refl)) in

@@ -31,10 +31,15 @@ pub record IsReaderOf (store : ℕ) (trace : List Call) (reader : ℕ) : Type 0 
 abbrev pub HasBookOf : StoreValue → Handle HeldSet → Type 0
 HasBookOf s reader = MatchOption (view_in reader) ⊤ (λ view. view.book ≡ s.seen.book)
 
--- The agreement: what each reader with this store's book has seen is a beginning of what is published in the store.
-abbrev pub AreOfOneBook : StoreValue → Handles → Type 0
-AreOfOneBook s h = (reader : ℕ) → MatchOption (view_in (h.readers reader)) ⊤
-    (λ view. view.book ≡ s.seen.book → StartsWith s.seen.batches view.batches)
+-- The agreement: what these readers have seen, if they have the store's book, is a beginning of what is published there.
+abbrev pub AreOfOneBook : StoreValue → Handles → List ℕ → Type 0
+AreOfOneBook s h readers = AllByRecursion (λ reader. MatchOption (view_in (h.readers reader)) ⊤
+    (λ view. view.book ≡ s.seen.book → StartsWith s.seen.batches view.batches)) readers
+
+-- these readers have seen exactly what is published in the store
+abbrev pub AreLevel : StoreValue → Handles → List ℕ → Type 0
+AreLevel s h readers = AllByRecursion (λ reader. MatchOption (view_in (h.readers reader)) ⊤ (λ view. view ≡ s.seen))
+    readers
 
 -- ---- its history
 
@@ -60,9 +65,13 @@ abbrev pub ReadersStay : Type 0
 ReadersStay = (trace : List Call) (h : Handles) (store reader : ℕ) (s : StoreValue) → IsTrace no_handles trace h
     → store_in (h.stores store) ≡ Some s → IsReaderOf store trace reader → HasBookOf s (h.readers reader)
 
+-- readers that have seen exactly what is published agree with the store
+abbrev pub LevelReadersAgree : Type 0
+LevelReadersAgree = (s : StoreValue) (h : Handles) (readers : List ℕ) → AreLevel s h readers → AreOfOneBook s h readers
+
 -- whatever a program does with its handles, a store has one history with its readers, if they agree at the end
 abbrev pub HandlesHaveOneHistory : Type 0
 HandlesHaveOneHistory = (trace : List Call) (h : Handles) (store : ℕ) (s : StoreValue) (readers : List ℕ)
-    → IsTrace no_handles trace h → store_in (h.stores store) ≡ Some s → AreOfOneBook s h
-    → AllByRecursion (IsReaderOf store trace) readers
+    → IsTrace no_handles trace h → store_in (h.stores store) ≡ Some s
+    → AllByRecursion (IsReaderOf store trace) readers → AreOfOneBook s h readers
     → (history : List Event) × IsHistoryOf s store trace readers history

@@ -1,5 +1,5 @@
 //! The law of handles. Calling the function does nothing; its contract is the law.
-ghost use Rattle.c_handles.specs.OneHistory.{HandlesHaveOneHistory, ReadersStay};
+ghost use Rattle.c_handles.specs.OneHistory.{HandlesHaveOneHistory, LevelReadersAgree, ReadersStay};
 
 /// Whatever a program does with its handles, from any threads: a reader that was made at an entrance of a store stays in
 /// that store, and the store has one legal history with its readers. The history has the store's loads and publishes, as
@@ -16,5 +16,6 @@ ghost use Rattle.c_handles.specs.OneHistory.{HandlesHaveOneHistory, ReadersStay}
 /// has both at hand sees it by `is_level`.
 pub fn handles_have_one_history()
     ensures stay { ReadersStay }
+    ensures level { LevelReadersAgree }
     ensures history { HandlesHaveOneHistory }
 {}

@@ -1,4 +1,4 @@
-use Rattle.c_handles.proofs.OneHistory.{handles_have_one_history}
+use Rattle.c_handles.proofs.OneHistory.{level_readers_agree, handles_have_one_history}
 use Rattle.c_handles.proofs.Provenance.{readers_stay}
 use Rattle.c_handles.proofs.law.handles_have_one_history.Goals as goal
 
@@ -7,3 +7,6 @@ returns-clause-stay c = readers_stay
 
 pub returns-clause-history : goal.returns-clause-history
 returns-clause-history c = handles_have_one_history
+
+pub returns-clause-level : goal.returns-clause-level
+returns-clause-level c = level_readers_agree
