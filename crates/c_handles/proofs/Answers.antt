@@ -18,7 +18,7 @@ use Rattle.c_handles.specs.Calls.{CountsStore, ClosesStore, MakesNotice, ClosesN
 use Rattle.c_handles.specs.Calls.{MakesReader, Enters, EntersAfter, Leaves, Looks, CountsReader, ClosesReader}
 use Rattle.c_handles.specs.Calls.{IsOpen, IsUnused, Makes, Turns, IsMadeAt, EntersIn, EntersAfterIn, DoesToReaders}
 use Rattle.c_handles.specs.Calls.{IsTrace}
-use Rattle.c_handles.specs.Acts.{Look, AreAnswered, ends_entry, look_in, looks_in}
+use Rattle.c_handles.specs.HandleActs.{Look, AreAnswered, ends_entry, look_in, looks_in}
 use Rattle.c_handles.proofs.Slots.{by_test, changed, here, equal, opened_with}
 
 -- the reader is in the version of these batches
@@ -128,7 +128,8 @@ looks_step v k h (ClosesNotice notice) next is now = same_readers v k h.readers 
 looks_step v k h (MakesEntrance n entrance) next is now = same_readers v k h.readers next is now
 looks_step v k h (ClosesEntrance entrance) next is now = same_readers v k h.readers next is now
 looks_step v k h (MakesReader entrance n told version fault) next is now =
-    let e = opened_with (λ e. Makes (IsMadeAt e told version fault) n h.readers next) (h.entrances entrance) is in record {
+    let e = opened_with (λ e. Makes (IsMadeAt e told version fault) n h.readers next) (h.entrances entrance) is in
+    record {
       answered = tt;
       stays = changed k n h.readers next (λ b x. (b && fault == no_fault) ≡ false → IsIn v x) e.1.others
           (λ fails. now)
@@ -139,7 +140,8 @@ looks_step v k h (Enters n version fault) next is now = record {
   answered = tt;
   stays = changed k n h.readers next (λ b x. (b && fault == no_fault) ≡ false → IsIn v x) is.others (λ fails. now)
       (λ same fails. refused_entry v version fault (h.readers k) (next k)
-      (here k n h.readers next (λ x y. IsOpen (λ old. IsOpen (EntersIn version fault old) y) x) same is.turned) now fails);
+      (here k n h.readers next (λ x y. IsOpen (λ old. IsOpen (EntersIn version fault old) y) x) same is.turned) now
+      fails);
 }
 looks_step v k h (EntersAfter n notice told version fault) next is now =
     let m = opened_with (λ m. Turns (EntersAfterIn m told version fault) n h.readers next) (h.notices notice) is in
@@ -152,7 +154,8 @@ looks_step v k h (EntersAfter n notice told version fault) next is now =
     }
 looks_step v k h (Leaves n) next is now = record {
   answered = tt;
-  stays = changed k n h.readers next (λ b x. b ≡ false → IsIn v x) is.others (λ fails. now) (λ same fails. absurd (cc (fails)));
+  stays = changed k n h.readers next (λ b x. b ≡ false → IsIn v x) is.others (λ fails. now)
+      (λ same fails. absurd (cc (fails)));
 }
 looks_step v k h (Looks n domain languages question text) next is now =
     let look : Look = record { domain = domain; languages = languages; question = question; text = text } in
@@ -169,7 +172,8 @@ looks_step v k h (Looks n domain languages question text) next is now =
 looks_step v k h (CountsReader n which number) next is now = same_readers v k h.readers next is.1 now
 looks_step v k h (ClosesReader n) next is now = record {
   answered = tt;
-  stays = changed k n h.readers next (λ b x. b ≡ false → IsIn v x) is.others (λ fails. now) (λ same fails. absurd (cc (fails)));
+  stays = changed k n h.readers next (λ b x. b ≡ false → IsIn v x) is.others (λ fails. now)
+      (λ same fails. absurd (cc (fails)));
 }
 
 -- ---- a trace

@@ -143,7 +143,8 @@ published_book : (p q : Option StoreValue) (before after : ℕ)
 published_book None q before after is = tt
 published_book (Some s) None before after is = absurd is
 published_book (Some s) (Some t) before after (inl (is, none)) = is.book
-published_book (Some s) (Some t) before after (inr (same, some, why, is, spent)) = ap (λ (x : StoreValue). x.seen.book) same
+published_book (Some s) (Some t) before after (inr (same, some, why, is, spent)) =
+    ap (λ (x : StoreValue). x.seen.book) same
 
 store_step : (k : ℕ) (h : Handles) (call : Call) (next : ℕ → Handle HeldStore) → DoesToStores h call next
     → Keeps IsSameStore (h.stores k) (next k)

@@ -9,7 +9,7 @@ use Rattle.live_loads.specs.Batches.{joined, version_of, StartsWith}
 use Rattle.live_loads.proofs.Joining.{begins_refl, begins_trans}
 use Rattle.snapshot_store.proofs.Ordering.{ordered}
 use Rattle.life.specs.Acts.{Act, Enters, Learns, IsLearning, Leads, LeadsAll}
-use Rattle.c_handles.specs.Acts.{Look, ReaderAct, Entered, Told, telling, AreAnswered}
+use Rattle.c_handles.specs.HandleActs.{Look, ReaderAct, Entered, Told, telling, AreAnswered}
 use Rattle.c_handles.proofs.Slots.{by_test}
 
 -- an entry of these batches, with the look-ups in it

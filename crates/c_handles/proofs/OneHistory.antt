@@ -18,7 +18,7 @@ use Rattle.c_sets.specs.Making.{any_reader_in}
 use Rattle.c_sets.specs.declared.sets.HeldSet.{HeldSet}
 use Rattle.c_handles.specs.Calls.{Handle, Unused, Open, Closed, Handles, Call, no_handles, IsTrace, store_in, view_in}
 use Rattle.c_stores.specs.declared.stores.HeldStore.{HeldStore}
-use Rattle.c_handles.specs.Acts.{ReaderAct, work_in, acts_in, IsStepOf}
+use Rattle.c_handles.specs.HandleActs.{ReaderAct, work_in, acts_in, IsStepOf}
 use Rattle.c_handles.specs.OneHistory.{IsReaderOf, HasBookOf, AreOfOneBook, acts_of}
 use Rattle.c_handles.specs.OneHistory.{LevelReadersAgree, HandlesHaveOneHistory}
 use Rattle.c_handles.proofs.Provenance.{readers_stay}

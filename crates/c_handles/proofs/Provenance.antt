@@ -131,8 +131,8 @@ of_store store entrance last m =
 
 pub readers_stay : ReadersStay
 readers_stay trace h store reader s is opened_as of =
-    let first = of_store store of.entrance h (moment (MakesEntrance store of.entrance) trace no_handles h is of.to_store)
-    in
+    let first = of_store store of.entrance h
+    (moment (MakesEntrance store of.entrance) trace no_handles h is of.to_store) in
     let call : Call = MakesReader of.entrance reader of.told of.version of.fault in
     let m : Moment call h = moment call trace no_handles h is of.made in
     let e = kept_entrance (m.before.entrances of.entrance) (h.entrances of.entrance)

@@ -20,7 +20,7 @@ use Rattle.c_handles.specs.Calls.{CountsStore, ClosesStore, MakesNotice, ClosesN
 use Rattle.c_handles.specs.Calls.{MakesReader, Enters, EntersAfter, Leaves, Looks, CountsReader, ClosesReader}
 use Rattle.c_handles.specs.Calls.{IsOpen, IsClosed, IsUnused, Makes, Turns, HasNumbers, IsMadeAt, EntersIn}
 use Rattle.c_handles.specs.Calls.{EntersAfterIn, DoesToReaders, IsTrace, told_by_notice, told_by_entrance}
-use Rattle.c_handles.specs.Acts.{Look, ReaderAct, AreAnswered, looks_in, entry_acts, acts_at, acts_in}
+use Rattle.c_handles.specs.HandleActs.{Look, ReaderAct, AreAnswered, looks_in, entry_acts, acts_at, acts_in}
 use Rattle.c_handles.proofs.Slots.{changed, here, opened_with}
 use Rattle.c_handles.proofs.Entries.{ReaderLeadsAll, leads_append, IsToldIn, entry_leads}
 use Rattle.c_handles.proofs.Answers.{IsIn, looks_answered}

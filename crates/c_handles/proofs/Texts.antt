@@ -11,7 +11,7 @@ use Rattle.live_versions.specs.History.{Event, State, Accept, Refuse, Publish, E
 use Rattle.desks.proofs.Runs.{grows}
 use Rattle.life.specs.Life.{Met, Entry, Notice, met_in, met}
 use Rattle.life.specs.Life.{IsStepOf as IsLifeStep}
-use Rattle.c_handles.specs.Acts.{ReaderAct, Entered, Told, AreAnswered, IsStepOf}
+use Rattle.c_handles.specs.HandleActs.{ReaderAct, Entered, Told, AreAnswered, IsStepOf}
 use Rattle.c_handles.proofs.Slots.{by_test}
 use Rattle.c_handles.proofs.Entries.{ReaderLeads, ReaderLeadsAll, leads_all_begins, either_begins, plain}
 

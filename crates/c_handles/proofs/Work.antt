@@ -29,7 +29,7 @@ use Rattle.c_handles.specs.Calls.{Handle, Unused, Open, Closed, Handles, Call, O
 use Rattle.c_handles.specs.Calls.{CountsStore, ClosesStore, MakesNotice, ClosesNotice, MakesEntrance, ClosesEntrance}
 use Rattle.c_handles.specs.Calls.{MakesReader, Enters, EntersAfter, Leaves, Looks, CountsReader, ClosesReader}
 use Rattle.c_handles.specs.Calls.{IsOpen, IsClosed, IsUnused, HasFault, LoadsInto, PublishesIn, DoesToStores, IsTrace}
-use Rattle.c_handles.specs.Acts.{load_events, publish_events, events_in, work_in}
+use Rattle.c_handles.specs.HandleActs.{load_events, publish_events, events_in, work_in}
 use Rattle.c_handles.proofs.Slots.{changed, here}
 
 -- this work was done in the store, if it could be opened
@@ -74,12 +74,14 @@ load_with : (work : List Event) (s t : StoreValue) (domain locale : List ℕ) (m
 load_with work s t domain locale map fault (inl (adds, none)) worked =
     let accepted : (fault == no_fault) ≡ true = ap (λ (n : ℕ). n == no_fault) none in
     subst
-    (λ (b : Bool). HasWorked (work ++ (if b then Accept (load_of domain locale map) ∷ [] else Refuse ∷ [])) (lists_of t))
+    (λ (b : Bool). HasWorked (work ++ (if b then Accept (load_of domain locale map) ∷ [] else Refuse ∷ []))
+    (lists_of t))
     (sym accepted) (added work s t domain locale map worked adds)
 load_with work s t domain locale map fault (inr (same, why, refused, is)) worked =
     let fails : (fault == no_fault) ≡ false = ap (λ (n : ℕ). n == no_fault) is ∙ load_is_refused why in
     subst
-    (λ (b : Bool). HasWorked (work ++ (if b then Accept (load_of domain locale map) ∷ [] else Refuse ∷ [])) (lists_of t))
+    (λ (b : Bool). HasWorked (work ++ (if b then Accept (load_of domain locale map) ∷ [] else Refuse ∷ []))
+    (lists_of t))
     (sym fails) (refusal_keeps work s t worked same)
 
 loaded : (work : List Event) (domain locale : List ℕ) (file : Opened) (catalogue : Option (Arc (List Entry) Global))

@@ -1,4 +1,4 @@
 pub mod Calls
-pub mod Acts
+pub mod HandleActs
 pub mod OneHistory
-pub mod Agreement
+pub mod Levels

@@ -9,7 +9,7 @@ use Rattle.desks.specs.ServedHistory.{without_entries}
 use Rattle.life.specs.Life.{met}
 use Rattle.c_handles.specs.Calls.{Handle, Handles, Call, MakesEntrance, MakesReader, no_handles, IsTrace}
 use Rattle.c_handles.specs.Calls.{store_in, view_in}
-use Rattle.c_handles.specs.Acts.{ReaderAct, work_in, acts_in, IsStepOf}
+use Rattle.c_handles.specs.HandleActs.{ReaderAct, work_in, acts_in, IsStepOf}
 
 -- ---- the readers of a store
 
@@ -31,7 +31,7 @@ pub record IsReaderOf (store : ℕ) (trace : List Call) (reader : ℕ) : Type 0 
 abbrev pub HasBookOf : StoreValue → Handle HeldSet → Type 0
 HasBookOf s reader = MatchOption (view_in reader) ⊤ (λ view. view.book ≡ s.seen.book)
 
--- The agreement: what these readers have seen, if they have the store's book, is a beginning of what is published there.
+-- The agreement: what these readers have seen, if they have the store's book, is a beginning of what is published.
 abbrev pub AreOfOneBook : StoreValue → Handles → List ℕ → Type 0
 AreOfOneBook s h readers = AllByRecursion (λ reader. MatchOption (view_in (h.readers reader)) ⊤
     (λ view. view.book ≡ s.seen.book → StartsWith s.seen.batches view.batches)) readers

@@ -1,6 +1,6 @@
 //! How a program with a store and one of its readers at hand sees that they agree.
 ghost use Rattle.std.specs.Prelude.{◌↔◌, IsTrue};
-ghost use Rattle.c_handles.specs.Agreement.{AreOfOneStore, HasMet, IsLevelWith};
+ghost use Rattle.c_handles.specs.Levels.{AreOfOneStore, HasMet, IsLevelWith};
 
 use c_sets::{HeldSet, Origin};
 use c_stores::{HeldStore, enter_after, notice};
