@@ -1,5 +1,5 @@
 -- The acts of a reader lead from what it had seen to what it has seen.
-use Rattle.std.proofs.Common.{◌≡◌, ◌⊎◌, ℕ, ◌≤◌, List, [], ◌∷◌, ◌++◌, map, length, refl, sym, subst, arith}
+use Rattle.std.proofs.Common.{◌≡◌, ◌⊎◌, ℕ, ◌≤◌, List, [], ◌∷◌, ◌++◌, map, length, refl, sym, subst, arith, ap, max}
 use Rattle.std.proofs.Common.{inl, inr, ⊎_elim}
 use Rattle.std.specs.Prelude.{⊤, Option, None, Some}
 use Rattle.std.proofs.lemmas.Bool.Decides.{nat_tests}
@@ -9,7 +9,8 @@ use Rattle.live_loads.specs.Batches.{joined, version_of, StartsWith}
 use Rattle.live_loads.proofs.Joining.{begins_refl, begins_trans}
 use Rattle.snapshot_store.proofs.Ordering.{ordered}
 use Rattle.life.specs.Acts.{Act, Enters, Learns, IsLearning, Leads, LeadsAll}
-use Rattle.c_handles.specs.HandleActs.{Look, ReaderAct, Entered, Told, telling, AreAnswered}
+use Rattle.desks.proofs.Answers.{version_grows}
+use Rattle.c_handles.specs.HandleActs.{GoOn, Look, ReaderAct, Entered, Told, telling, AreAnswered}
 use Rattle.c_handles.proofs.Slots.{by_test}
 
 -- an entry of these batches, with the look-ups in it
@@ -111,3 +112,28 @@ pub plain_leads_all : (a : List (List LoadValue)) (acts : List ReaderAct) (b : L
 plain_leads_all a [] b is = is
 plain_leads_all a (act ∷ acts) b (next, one, rest) =
     (next, plain_leads a act next one, plain_leads_all next acts b rest)
+
+-- ---- versions that never fall
+
+learnt : (seen version : ℕ) (cur next : List (List LoadValue)) → seen ≡ version_of cur → IsLearning cur version next
+    → max seen version ≡ version_of next
+learnt seen version cur next n leads =
+    let a : version_of cur ≤ version_of next = version_grows next cur leads.later in
+    let b : version_of leads.notice ≤ version_of next = version_grows next leads.notice leads.told in
+    ⊎_elim
+    (λ (is : next ≡ cur). let c : version_of next ≡ version_of cur = ap version_of is in omega
+    (arith, a, b, c, n, leads.version_is))
+    (λ (is : next ≡ leads.notice). let c : version_of next ≡ version_of leads.notice = ap version_of is in omega
+    (arith, a, b, c, n, leads.version_is)) leads.one
+
+pub goes_on : (seen : ℕ) (a : List (List LoadValue)) (acts : List ReaderAct) (b : List (List LoadValue))
+    → seen ≡ version_of a → ReaderLeadsAll a acts b → GoOn seen acts
+goes_on seen a [] b n is = tt
+goes_on seen a (Entered version looks ∷ acts) b n (next, one, rest) =
+    let le : version_of a ≤ version_of next = version_grows next a one.later in (
+      omega (arith, n, le, one.version_is),
+      (joined next, one.version_is, one.answered),
+      goes_on version next acts b one.version_is rest,
+    )
+goes_on seen a (Told version ∷ acts) b n (next, one, rest) =
+    goes_on (max seen version) next acts b (learnt seen version a next n one) rest

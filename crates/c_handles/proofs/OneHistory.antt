@@ -20,10 +20,10 @@ use Rattle.c_handles.specs.Calls.{Handle, Unused, Open, Closed, Handles, Call, n
 use Rattle.c_stores.specs.declared.stores.HeldStore.{HeldStore}
 use Rattle.c_handles.specs.HandleActs.{ReaderAct, work_in, acts_in, IsStepOf}
 use Rattle.c_handles.specs.OneHistory.{IsReaderOf, HasBookOf, AreOfOneBook, acts_of}
-use Rattle.c_handles.specs.OneHistory.{LevelReadersAgree, HandlesHaveOneHistory}
+use Rattle.c_handles.specs.OneHistory.{ReadersGoOn, LevelReadersAgree, HandlesHaveOneHistory}
 use Rattle.c_handles.proofs.Provenance.{readers_stay}
 use Rattle.c_handles.proofs.Work.{WorkedIn, Worked, work_all}
-use Rattle.c_handles.proofs.Entries.{ReaderLeadsAll, plain, plain_leads_all}
+use Rattle.c_handles.proofs.Entries.{ReaderLeadsAll, plain, plain_leads_all, goes_on}
 use Rattle.c_handles.proofs.ReaderActs.{HasSeen, Leads, acts_lead}
 use Rattle.c_handles.proofs.Texts.{AreWithin, with_texts, all_within}
 
@@ -108,6 +108,11 @@ all_stay : (trace : List Call) (h : Handles) (store : ℕ) (s : StoreValue) (rea
 all_stay trace h store s [] is opened_as of = tt
 all_stay trace h store s (r ∷ rs) is opened_as of =
     (readers_stay trace h store r s is opened_as of.0, all_stay trace h store s rs is opened_as of.1)
+
+pub readers_go_on : ReadersGoOn
+readers_go_on trace h reader is =
+    let all : Leads [] (acts_in reader trace) (h.readers reader) = acts_lead [] reader trace no_handles h is refl in
+    goes_on 0 [] (acts_in reader trace) all.0 refl all.1
 
 level_agrees : (s : StoreValue) (view : Option SeenValue) → MatchOption view ⊤ (λ v. v ≡ s.seen)
     → MatchOption view ⊤ (λ v. v.book ≡ s.seen.book → StartsWith s.seen.batches v.batches)

@@ -1,6 +1,6 @@
 -- What the calls of a trace are in the history of a store: events of its publisher, and acts of its readers.
 use Rattle.std.specs.Prelude.{◌≡◌, ℕ, ◌==◌, ◌≤◌, ◌&&◌, Bool, false, if◌then◌else◌, List, [], ◌∷◌, ◌++◌, Option, None}
-use Rattle.std.specs.Prelude.{Some}
+use Rattle.std.specs.Prelude.{Some, ⊤, length, max}
 use Rattle.std.specs.List.{AllByRecursion}
 use Rattle.std.specs.Option.{option_map_or}
 use Rattle.std.specs.Arc.{arc_value}
@@ -98,11 +98,21 @@ abbrev pub acts_in : ℕ → List Call → List ReaderAct
 acts_in reader [] = []
 acts_in reader (call ∷ calls) = acts_at reader call (looks_in reader calls) ++ acts_in reader calls
 
--- ---- what an act is in a history
+-- ---- what an act is by itself
 
 -- each text is its question's answer over these loads
 abbrev pub AreAnswered : List LoadValue → List Look → Type 0
 AreAnswered loads looks = AllByRecursion (λ l. IsAnswerOver loads l.domain l.languages l.question l.text) looks
+
+-- Acts of a reader that had seen this version: no entry is of a version below one that it entered or was told of
+-- before, and the look-ups of an entry are answered over as many loads as its version says.
+abbrev pub GoOn : ℕ → List ReaderAct → Type 0
+GoOn seen [] = ⊤
+GoOn seen (Entered version looks ∷ acts) = (seen ≤ version)
+    × ((loads : List LoadValue) × (version ≡ length loads) × AreAnswered loads looks) × GoOn version acts
+GoOn seen (Told version ∷ acts) = GoOn (max seen version) acts
+
+-- ---- what it is in a history
 
 -- The step is this act: an entry's version is the number of loads that are published there, no less than what the
 -- reader had seen, and each text is its question's answer over all loads that are published there.

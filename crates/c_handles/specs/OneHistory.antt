@@ -9,7 +9,7 @@ use Rattle.desks.specs.ServedHistory.{without_entries}
 use Rattle.life.specs.Life.{met}
 use Rattle.c_handles.specs.Calls.{Handle, Handles, Call, MakesEntrance, MakesReader, no_handles, IsTrace}
 use Rattle.c_handles.specs.Calls.{store_in, view_in}
-use Rattle.c_handles.specs.HandleActs.{ReaderAct, work_in, acts_in, IsStepOf}
+use Rattle.c_handles.specs.HandleActs.{ReaderAct, work_in, acts_in, GoOn, IsStepOf}
 
 -- ---- the readers of a store
 
@@ -59,6 +59,11 @@ pub record IsHistoryOf (s : StoreValue) (store : ℕ) (trace : List Call) (reade
   pub steps : (place : ℕ) → AllZip IsStepOf (acts_of trace readers place) (met place opened history)
 
 -- ---- the laws
+
+-- the acts of each reader go on from what it had seen
+abbrev pub ReadersGoOn : Type 0
+ReadersGoOn = (trace : List Call) (h : Handles) (reader : ℕ) → IsTrace no_handles trace h
+    → GoOn 0 (acts_in reader trace)
 
 -- a reader that was made at an entrance of a store stays in that store
 abbrev pub ReadersStay : Type 0

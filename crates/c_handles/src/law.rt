@@ -1,10 +1,11 @@
 //! The law of handles. Calling the function does nothing; its contract is the law.
-ghost use Rattle.c_handles.specs.OneHistory.{HandlesHaveOneHistory, LevelReadersAgree, ReadersStay};
+ghost use Rattle.c_handles.specs.OneHistory.{HandlesHaveOneHistory, LevelReadersAgree, ReadersGoOn, ReadersStay};
 
-/// Whatever a program does with its handles, from any threads: a reader that was made at an entrance of a store stays
-/// in that store, and the store has one legal history with its readers. The history has the store's loads and
-/// publishes, as they were answered, and of each reader the entries with the texts of their look-ups, and the notices
-/// that it entered after.
+/// Whatever a program does with its handles, from any threads: a reader's versions never fall and include each notice
+/// that it entered after, and the look-ups of an entry are answered over as many loads as its version says. A reader
+/// that was made at an entrance of a store stays in that store. The store has one legal history with its readers: its
+/// loads and publishes, as they were answered, and of each reader the entries with the texts of their look-ups, and the
+/// notices that it entered after.
 ///
 /// A trace lists the calls one after another, so that each takes its handles as the calls before left them. Calls on
 /// different handles may be listed in either order.
@@ -15,6 +16,7 @@ ghost use Rattle.c_handles.specs.OneHistory.{HandlesHaveOneHistory, LevelReaders
 /// the shorter one begins the longer one, and only a publish adds to the book. A program that has both at hand sees it
 /// by `is_level`.
 pub fn handles_have_one_history()
+    ensures versions { ReadersGoOn }
     ensures stay { ReadersStay }
     ensures level { LevelReadersAgree }
     ensures history { HandlesHaveOneHistory }

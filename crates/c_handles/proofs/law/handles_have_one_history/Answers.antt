@@ -1,4 +1,4 @@
-use Rattle.c_handles.proofs.OneHistory.{level_readers_agree, handles_have_one_history}
+use Rattle.c_handles.proofs.OneHistory.{readers_go_on, level_readers_agree, handles_have_one_history}
 use Rattle.c_handles.proofs.Provenance.{readers_stay}
 use Rattle.c_handles.proofs.law.handles_have_one_history.Goals as goal
 
@@ -10,3 +10,6 @@ returns-clause-history c = handles_have_one_history
 
 pub returns-clause-level : goal.returns-clause-level
 returns-clause-level c = level_readers_agree
+
+pub returns-clause-versions : goal.returns-clause-versions
+returns-clause-versions c = readers_go_on
