@@ -7,3 +7,4 @@ pub mod Texts
 pub mod Books
 pub mod Provenance
 pub mod OneHistory
+pub mod Example

@@ -1,4 +1,5 @@
 //! The law of handles. Calling the function does nothing; its contract is the law.
+ghost use Rattle.c_handles.specs.Example.{FirstCallsArePossible};
 ghost use Rattle.c_handles.specs.OneHistory.{HandlesHaveOneHistory, LevelReadersAgree, ReadersGoOn, ReadersStay};
 
 /// Whatever a program does with its handles, from any threads: a reader's versions never fall and include each notice
@@ -19,5 +20,6 @@ pub fn handles_have_one_history()
     ensures versions { ReadersGoOn }
     ensures stay { ReadersStay }
     ensures level { LevelReadersAgree }
+    ensures possible { FirstCallsArePossible }
     ensures history { HandlesHaveOneHistory }
 {}
