@@ -5,9 +5,17 @@ use Rattle.std.specs.Prelude.{◌&&◌, Option, None, Some, MatchOption}
 use Rattle.live_set.specs.Loads.{LoadValue}
 use Rattle.live_loads.specs.Batches.{joined}
 use Rattle.live_loads.specs.Seen.{SeenValue}
-use Rattle.c_answers.specs.Answering.{Question}
+use Rattle.c_answers.specs.Answering.{IsClosedAnswer, Question, key_of}
+use Rattle.mo_image.specs.Entry.{Entry}
+use Rattle.live_set.specs.SetPlaces.{listed, map_among}
+use Rattle.live_set.specs.declared.places.Places.{Places}
+use Rattle.live_set.specs.Sets.{SetValue, fold}
+use Rattle.c_handles.specs.Calls.{LooksAtIn}
+use Rattle.std.specs.Prelude.{take}
+use Rattle.std.proofs.Common.{refl}
 use Rattle.c_answers.specs.Numbers.{no_fault}
-use Rattle.c_sets.specs.Making.{IsAnswerFrom, reader_in}
+use Rattle.c_sets.proofs.Reading.{answered_from as over_loads}
+use Rattle.c_sets.specs.Making.{IsAnswerFrom, IsAnswerIn, reader_in}
 use Rattle.c_sets.specs.declared.sets.HeldSet.{HeldSet}
 use Rattle.c_sets.specs.declared.sets.Origin.{Origin}
 use Rattle.c_sets.specs.declared.sets.Origin.TheVariants.{Made, Lent, Left, Refused}
@@ -15,7 +23,7 @@ use Rattle.c_stores.specs.Storing.{IsEntered, IsEnteredAfter, IsAfter}
 use Rattle.c_stores.specs.declared.stores.HeldNotice.{HeldNotice}
 use Rattle.c_handles.specs.Calls.{Handle, Unused, Open, Closed, Handles, Call, OpensStore, Loads, Publishes, Reclaims}
 use Rattle.c_handles.specs.Calls.{CountsStore, ClosesStore, MakesNotice, ClosesNotice, MakesEntrance, ClosesEntrance}
-use Rattle.c_handles.specs.Calls.{MakesReader, Enters, EntersAfter, Leaves, Looks, CountsReader, ClosesReader}
+use Rattle.c_handles.specs.Calls.{MakesReader, Enters, EntersAfter, Leaves, Looks, LooksAt, CountsReader, ClosesReader}
 use Rattle.c_handles.specs.Calls.{IsOpen, IsUnused, Makes, Turns, IsMadeAt, EntersIn, EntersAfterIn, DoesToReaders}
 use Rattle.c_handles.specs.Calls.{IsTrace}
 use Rattle.c_handles.specs.HandleActs.{Look, AreAnswered, ends_entry, look_in, looks_in}
@@ -101,6 +109,43 @@ answered_here v Unused domain languages q text now is = absurd now
 answered_here v (Closed a) domain languages q text now is = absurd now
 answered_here v (Open a) domain languages q text now is = answered_from v a.origin domain languages q text now is
 
+-- ---- a look-up at listed places
+
+no_entry : (q : Question) (text : List ℕ) → IsClosedAnswer [] q text → text ≡ []
+no_entry q [] is = refl
+no_entry q (b ∷ bs) is = absurd (cc (is))
+
+-- no places
+nowhere : (held : List LoadValue) (places : Places) (q : Question) (text : List ℕ) → places.count ≡ 0
+    → IsClosedAnswer (map_among held (listed places) (key_of q)) q text → text ≡ []
+nowhere held places q text none is = no_entry q text
+    (subst (λ (n : ℕ). IsClosedAnswer (map_among held (take n places.places) (key_of q)) q text) none is)
+
+answered_at : (v : List (List LoadValue)) (o : Origin) (f : ℕ) (domain languages : List ℕ) (places : Places)
+    (q : Question) (text : List ℕ) → IsInOrigin v o
+    → LooksAtIn domain languages places q text (record { origin = o; fault = f })
+    → AreAnswered (joined v) (record { domain = domain; languages = languages; question = q; text = text } ∷ [])
+answered_at v (Lent r) f domain languages places q text now is =
+    let set : SetValue = fold (joined r.batches) in
+    let found : IsAnswerIn set domain languages q text = record {
+      asked = λ d l. subst (λ (m : List Entry). IsClosedAnswer m q text)
+          ((is.places_are.asked d l).answers is.few (key_of q)) is.answer;
+      no_domain = λ d. nowhere set.held places q text (is.places_are.no_domain d) is.answer;
+      no_languages = λ l. nowhere set.held places q text (is.places_are.no_languages l) is.answer;
+    } in
+    answered_from v (Lent r) domain languages q text now (over_loads (Lent r) domain languages q text found)
+answered_at v (Made set) f domain languages places q text now is = absurd now
+answered_at v (Left r set) f domain languages places q text now is = absurd now
+answered_at v Refused f domain languages places q text now is = absurd now
+
+answered_at_here : (v : List (List LoadValue)) (x : Handle HeldSet) (domain languages : List ℕ) (places : Places)
+    (q : Question) (text : List ℕ) → IsIn v x → IsOpen (LooksAtIn domain languages places q text) x
+    → AreAnswered (joined v) (record { domain = domain; languages = languages; question = q; text = text } ∷ [])
+answered_at_here v Unused domain languages places q text now is = absurd now
+answered_at_here v (Closed a) domain languages places q text now is = absurd now
+answered_at_here v (Open a) domain languages places q text now is =
+    answered_at v a.origin a.fault domain languages places q text now is
+
 -- ---- a call
 
 record Continues (v : List (List LoadValue)) (ends : Bool) (look : List Look) (y : Handle HeldSet) : Type 0 where
@@ -162,6 +207,18 @@ looks_step v k h (Looks n domain languages question text) next is now =
     let at : (k == n) ≡ true → AreAnswered (joined v) (look ∷ []) = λ yes_.
     answered_here v (h.readers k) domain languages question text now
     (subst (λ (j : ℕ). IsOpen (λ r. IsAnswerFrom r.origin domain languages question text) (h.readers j))
+    (sym (equal k n yes_)) is.0) in
+    record {
+      answered = by_test (k == n)
+          (λ yes_. subst (λ (b : Bool). AreAnswered (joined v) (if b then look ∷ [] else [])) (sym yes_) (at yes_))
+          (λ no_. subst (λ (b : Bool). AreAnswered (joined v) (if b then look ∷ [] else [])) (sym no_) tt);
+      stays = λ fails. subst (λ (f : ℕ → Handle HeldSet). IsIn v (f k)) (sym is.1) now;
+    }
+looks_step v k h (LooksAt n domain languages places question text) next is now =
+    let look : Look = record { domain = domain; languages = languages; question = question; text = text } in
+    let at : (k == n) ≡ true → AreAnswered (joined v) (look ∷ []) = λ yes_.
+    answered_at_here v (h.readers k) domain languages places question text now
+    (subst (λ (j : ℕ). IsOpen (LooksAtIn domain languages places question text) (h.readers j))
     (sym (equal k n yes_)) is.0) in
     record {
       answered = by_test (k == n)

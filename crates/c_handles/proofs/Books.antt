@@ -18,7 +18,7 @@ use Rattle.std.specs.declared.alloc.Global.{Global}
 use Rattle.std.specs.declared.sync.Arc.{Arc}
 use Rattle.c_handles.specs.Calls.{Handle, Unused, Open, Closed, Handles, Call, OpensStore, Loads, Publishes, Reclaims}
 use Rattle.c_handles.specs.Calls.{CountsStore, ClosesStore, MakesNotice, ClosesNotice, MakesEntrance, ClosesEntrance}
-use Rattle.c_handles.specs.Calls.{MakesReader, Enters, EntersAfter, Leaves, Looks, CountsReader, ClosesReader}
+use Rattle.c_handles.specs.Calls.{MakesReader, Enters, EntersAfter, Leaves, Looks, LooksAt, CountsReader, ClosesReader}
 use Rattle.c_handles.specs.Calls.{IsOpen, IsClosed, IsUnused, Makes, Turns, Closes, LoadsInto, PublishesIn}
 use Rattle.c_handles.specs.Calls.{IsMadeAt, EntersIn, EntersAfterIn, DoesToStores, DoesToEntrances, DoesToReaders}
 use Rattle.c_handles.specs.Calls.{IsTrace}
@@ -176,6 +176,8 @@ store_step k h (EntersAfter reader notice told version fault) next is =
 store_step k h (Leaves reader) next is = none_at IsSameStore (λ v. same_store v.publisher) k h.stores next is
 store_step k h (Looks reader domain languages question text) next is =
     none_at IsSameStore (λ v. same_store v.publisher) k h.stores next is
+store_step k h (LooksAt reader domain languages places question text) next is =
+    none_at IsSameStore (λ v. same_store v.publisher) k h.stores next is
 store_step k h (CountsReader reader which number) next is =
     none_at IsSameStore (λ v. same_store v.publisher) k h.stores next is
 store_step k h (ClosesReader reader) next is = none_at IsSameStore (λ v. same_store v.publisher) k h.stores next is
@@ -217,6 +219,8 @@ entrance_step k h (EntersAfter reader notice told version fault) next is =
     none_at IsSameEntrance (λ v. refl) k h.entrances next is
 entrance_step k h (Leaves reader) next is = none_at IsSameEntrance (λ v. refl) k h.entrances next is
 entrance_step k h (Looks reader domain languages question text) next is =
+    none_at IsSameEntrance (λ v. refl) k h.entrances next is
+entrance_step k h (LooksAt reader domain languages places question text) next is =
     none_at IsSameEntrance (λ v. refl) k h.entrances next is
 entrance_step k h (CountsReader reader which number) next is =
     none_at IsSameEntrance (λ v. refl) k h.entrances next is
@@ -319,6 +323,8 @@ reader_step k h (Leaves n) next is =
     turned_at_n IsSameReader IsLeft (λ v. same_reader (any_reader_in v.origin))
     (λ v w leaves. leaves_book v.origin v.fault w leaves) k n h.readers next is
 reader_step k h (Looks n domain languages question text) next is =
+    none_at IsSameReader (λ v. same_reader (any_reader_in v.origin)) k h.readers next is.1
+reader_step k h (LooksAt n domain languages places question text) next is =
     none_at IsSameReader (λ v. same_reader (any_reader_in v.origin)) k h.readers next is.1
 reader_step k h (CountsReader n which number) next is =
     none_at IsSameReader (λ v. same_reader (any_reader_in v.origin)) k h.readers next is.1

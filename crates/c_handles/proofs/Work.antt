@@ -27,7 +27,7 @@ use Rattle.c_stores.specs.Storing.{load_number, publish_number}
 use Rattle.c_stores.specs.declared.stores.HeldStore.{HeldStore}
 use Rattle.c_handles.specs.Calls.{Handle, Unused, Open, Closed, Handles, Call, OpensStore, Loads, Publishes, Reclaims}
 use Rattle.c_handles.specs.Calls.{CountsStore, ClosesStore, MakesNotice, ClosesNotice, MakesEntrance, ClosesEntrance}
-use Rattle.c_handles.specs.Calls.{MakesReader, Enters, EntersAfter, Leaves, Looks, CountsReader, ClosesReader}
+use Rattle.c_handles.specs.Calls.{MakesReader, Enters, EntersAfter, Leaves, Looks, LooksAt, CountsReader, ClosesReader}
 use Rattle.c_handles.specs.Calls.{IsOpen, IsClosed, IsUnused, HasFault, LoadsInto, PublishesIn, DoesToStores, IsTrace}
 use Rattle.c_handles.specs.HandleActs.{load_events, publish_events, events_in, work_in}
 use Rattle.c_handles.proofs.Slots.{changed, here}
@@ -231,6 +231,8 @@ work_step k h (EntersAfter reader notice told version fault) next work is worked
     same_stores k work h.stores next is worked
 work_step k h (Leaves reader) next work is worked = same_stores k work h.stores next is worked
 work_step k h (Looks reader domain languages question text) next work is worked =
+    same_stores k work h.stores next is worked
+work_step k h (LooksAt reader domain languages places question text) next work is worked =
     same_stores k work h.stores next is worked
 work_step k h (CountsReader reader which number) next work is worked = same_stores k work h.stores next is worked
 work_step k h (ClosesReader reader) next work is worked = same_stores k work h.stores next is worked

@@ -1,12 +1,15 @@
 -- The handles of a C program, and what each call of the library does to them.
-use Rattle.std.specs.Prelude.{◌≡◌, ◌==◌, ⊤, ℕ, List, [], ◌∷◌, Option, None, false}
+use Rattle.std.specs.Prelude.{◌≡◌, ◌==◌, ◌≤◌, ⊤, ℕ, List, [], ◌∷◌, Option, None, false}
 use Rattle.std.specs.Option.{option_map}
+use Rattle.live_set.specs.SetPlaces.{listed, most_places}
+use Rattle.live_set.specs.declared.places.Places.{Places}
 use Rattle.live_loads.specs.Batches.{version_of}
 use Rattle.live_loads.specs.Seen.{SeenValue}
 use Rattle.live_loads.specs.Store.{StoreValue}
 use Rattle.c_answers.specs.Answering.{Question}
 use Rattle.c_answers.specs.Numbers.{the_fault, the_version}
 use Rattle.c_answers.specs.declared.opened.Opened.{Opened}
+use Rattle.c_sets.specs.NamedPlaces.{AreSetPlaces, IsSetAnswerAt}
 use Rattle.c_sets.specs.Making.{IsSetAnswer, any_reader_in, set_number}
 use Rattle.c_sets.specs.declared.sets.HeldSet.{HeldSet}
 use Rattle.c_stores.specs.Storing.{IsNewStore, IsLoaded, IsPublished, IsReclaimed, IsStoreNumber, IsNoticeOf}
@@ -60,6 +63,7 @@ pub data Call : Type 0 where
   EntersAfter : (reader notice : ℕ) (told : Option ℕ) (version fault : ℕ) → Call
   Leaves : (reader : ℕ) → Call
   Looks : (reader : ℕ) (domain languages : List ℕ) (question : Question) (text : List ℕ) → Call
+  LooksAt : (reader : ℕ) (domain languages : List ℕ) (places : Places) (question : Question) (text : List ℕ) → Call
   CountsReader : (reader which number : ℕ) → Call
   ClosesReader : (reader : ℕ) → Call
 
@@ -170,6 +174,13 @@ pub record EntersAfterIn (n : HeldNotice) (told : Option ℕ) (version fault : �
   pub told_is : told ≡ told_by_notice n
   pub numbers : HasNumbers new version fault
 
+-- a look-up at places that were listed in the version that the reader is in, not more than a list has
+pub record LooksAtIn (domain languages : List ℕ) (places : Places) (question : Question) (text : List ℕ)
+    (reader : HeldSet) : Type 0 where
+  pub places_are : AreSetPlaces reader domain languages places
+  pub few : places.count ≤ most_places
+  pub answer : IsSetAnswerAt reader (listed places) question text
+
 -- to the readers
 abbrev pub DoesToReaders : Handles → Call → (ℕ → Handle HeldSet) → Type 0
 DoesToReaders h (MakesReader entrance reader told version fault) after =
@@ -180,6 +191,8 @@ DoesToReaders h (EntersAfter reader notice told version fault) after =
 DoesToReaders h (Leaves reader) after = Turns IsLeft reader h.readers after
 DoesToReaders h (Looks reader domain languages question text) after =
     IsOpen (λ r. IsSetAnswer r domain languages question text) (h.readers reader) × (after ≡ h.readers)
+DoesToReaders h (LooksAt reader domain languages places question text) after =
+    IsOpen (LooksAtIn domain languages places question text) (h.readers reader) × (after ≡ h.readers)
 DoesToReaders h (CountsReader reader which number) after =
     IsOpen (λ r. number ≡ set_number r which) (h.readers reader) × (after ≡ h.readers)
 DoesToReaders h (ClosesReader reader) after = Closes reader h.readers after

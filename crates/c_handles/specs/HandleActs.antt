@@ -13,7 +13,8 @@ use Rattle.c_answers.specs.Answering.{Question}
 use Rattle.c_answers.specs.Numbers.{no_fault}
 use Rattle.c_answers.specs.declared.opened.Opened.{Opened}
 use Rattle.c_sets.specs.Making.{IsAnswerOver, load_of}
-use Rattle.c_handles.specs.Calls.{Call, Loads, Publishes, MakesReader, Enters, EntersAfter, Leaves, Looks, ClosesReader}
+use Rattle.c_handles.specs.Calls.{Call, Loads, Publishes, MakesReader, Enters, EntersAfter}
+use Rattle.c_handles.specs.Calls.{Leaves, Looks, LooksAt, ClosesReader}
 
 -- ---- the publisher
 
@@ -66,6 +67,8 @@ ends_entry reader _ = false
 -- the look-up of a reader in a call
 abbrev pub look_in : ℕ → Call → List Look
 look_in reader (Looks other domain languages question text) = if reader == other
+    then record { domain = domain; languages = languages; question = question; text = text } ∷ [] else []
+look_in reader (LooksAt other domain languages places question text) = if reader == other
     then record { domain = domain; languages = languages; question = question; text = text } ∷ [] else []
 look_in reader _ = []
 
