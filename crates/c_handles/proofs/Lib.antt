@@ -1,0 +1,10 @@
+pub mod Slots
+pub mod Work
+pub mod Entries
+pub mod Answers
+pub mod ReaderActs
+pub mod Texts
+pub mod Books
+pub mod Provenance
+pub mod OneHistory
+pub mod Example

@@ -1,0 +1,30 @@
+//! How a program with a store and one of its readers at hand sees that they agree.
+ghost use Rattle.std.specs.Prelude.{◌↔◌, IsTrue};
+ghost use Rattle.c_handles.specs.Levels.{AreOfOneStore, HasMet, IsLevelWith};
+
+use c_sets::{HeldSet, Origin};
+use c_stores::{HeldStore, enter_after, notice};
+
+/// Enters what is published in a store of this reader, or a later version. If the reader isn't told to be busy, both
+/// agree: what is published in the store is a beginning of what the reader has seen.
+pub fn meet(store: &HeldStore, reader: HeldSet) -> HeldSet
+    requires { AreOfOneStore store.now reader }
+    ensures { HasMet store.now reader result }
+{
+    let published = notice(store);
+    enter_after(reader, &published)
+}
+
+/// Whether a reader of this store is in exactly what is published in it. Then both agree.
+pub fn is_level(store: &HeldStore, reader: &HeldSet) -> bool
+    requires { AreOfOneStore store.now reader.now }
+    ensures { IsTrue result ↔ IsLevelWith store.now reader.now }
+{
+    let Some(publisher) = &store.publisher else {
+        return false;
+    };
+    match &reader.origin {
+        Origin::Lent(reader) => publisher.is_entered_by(reader),
+        _ => false,
+    }
+}
