@@ -1,4 +1,5 @@
--- Whether a PO text may have a directive with the flag `I`, for the digits of the locale (glibc, "Integer Conversions").
+-- Whether a PO text may have a directive with the flag `I`, for the digits of the locale (glibc, "Integer
+-- Conversions").
 
 -- A directive that is spelled with escapes isn't seen (ours).
 use Rattle.std.specs.Prelude.{ℕ, Bool, false, ◌==◌, ◌&&◌, ◌||◌, List, [], ◌∷◌, codes}
@@ -8,8 +9,8 @@ use Rattle.format_arguments.specs.Bytes.{run}
 use Rattle.c_signature.specs.Pieces.{is_flag, percent}
 use Rattle.c_macros.specs.MacroSplits.{other_digits}
 
--- a byte that can stand between the `%` of a directive and the flag, or the flag itself: flags, a number and its `$`, and
--- what stands between two strings of a PO text
+-- a byte that can stand between the `%` of a directive and the flag, or the flag itself: flags, a number and its `$`,
+-- and what stands between two strings of a PO text
 abbrev pub is_in_front : ℕ → Bool
 is_in_front b = is_flag b || is_ascii_digit b || list_any (λ other. b == other) (codes "$\"\t\n\r")
 

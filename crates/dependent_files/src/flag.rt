@@ -30,8 +30,8 @@ fn leads_to_flag(text: &[u8]) -> bool
     text[..front_len(text)].contains(&b'I')
 }
 
-/// Whether a PO text may have a directive with the flag `I`, at which GNU msgfmt splits a translation. A directive whose
-/// `%` or flags are spelled with escapes isn't seen.
+/// Whether a PO text may have a directive with the flag `I`, at which GNU msgfmt splits a translation. A directive
+/// whose `%` or flags are spelled with escapes isn't seen.
 #[tactic(auto, using(crate::proofs::Flags::next, crate::proofs::Flags::none, crate::proofs::Flags::shorter))]
 pub fn may_have_flag(text: &[u8]) -> bool
     ensures { result ≡ spec.may_have_flag text.now }

@@ -71,7 +71,8 @@ kobdzila_recode_spec 𝓤 𝓛 𝓜 𝓡 wired =
     ) in
     let IsOf = λ (r : HeldOutput). IsRecodedText id.now r in
     let toks = ‵ (flft κs.0 qs.0) ⊛ ‵ ftrue in
-    qed 𝓛 ((toks ⊛ ‵ (owns (Heap.the_row ∷ ShrSlice (named 0) κs.0 u8 ∷ RawPtr ∷ []) a (y out).0.4)) ∷ ‵ (room_at R out) ∷ []) ∵
+    qed 𝓛 ((toks ⊛ ‵ (owns (Heap.the_row ∷ ShrSlice (named 0) κs.0 u8 ∷ RawPtr ∷ []) a (y out).0.4)) ∷ ‵ (room_at R
+    out) ∷ []) ∵
     split ! $ move ! (1 ∷ []) $ fsplit ! $ move ! (1 ∷ []) $ fsplit ! $ move ! (1 ∷ []) $ drop ! $
     -- [the text; the allocator; the tokens; the room]
     move ! (3 ∷ []) $ in_a_block ! out (λ r. room_at R r) (id⊢ 𝓤 _) (λ b o e.
