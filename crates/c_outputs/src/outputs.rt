@@ -4,7 +4,7 @@ ghost use Rattle.format_flags.specs.Languages.{number as language_number};
 ghost use Rattle.po_formats.specs.TextFaults.{HasFaultsAny, RefusesAny};
 ghost use denote.Param.{layout};
 ghost use prog.Memory.{align, size};
-ghost use Rattle.c_opening.specs.Opening.{options_of};
+ghost use Rattle.c_opening.specs.Opening.{line_of, options_of, text_fault_number};
 ghost use Rattle.c_outputs.specs.contracts.outputs.HeldOutput.{the_row};
 ghost use Rattle.c_outputs.specs.Outputs.{IsFormatFaults, IsPoText, IsPoTextOf, IsUnmade, faults_in, text_in};
 ghost use Rattle.any_charset.specs.Recoding.{IsRecoded};
@@ -73,6 +73,14 @@ fn unmade(fault: u32, line: u32) -> HeldOutput
     }
 }
 
+/// Nothing, for the fault of a PO text.
+fn refused(fault: TextFault) -> HeldOutput
+    ensures { IsUnmade (text_fault_number fault) (line_of fault) result }
+{
+    let (number, line) = number_and_line(fault);
+    unmade(number, line)
+}
+
 /// The PO text of a catalogue, or out of memory.
 fn po_text_of(alloc: Global, catalogue: &Catalogue, escape: bool) -> HeldOutput
     ensures { IsPoTextOf escape catalogue.now result }
@@ -122,10 +130,7 @@ pub fn check_formats(alloc: Global, bytes: &[u8], checked: u32, use_fuzzy: u32) 
             fault: NO_FAULT,
             line: 0,
         },
-        Err(fault) => {
-            let (number, line) = number_and_line(fault);
-            unmade(number, line)
-        }
+        Err(fault) => refused(fault),
     }
 }
 
@@ -154,10 +159,7 @@ pub fn recode(alloc: Global, bytes: &[u8]) -> HeldOutput
             fault: NO_FAULT,
             line: 0,
         },
-        Err(fault) => {
-            let (number, line) = number_and_line(fault);
-            unmade(number, line)
-        }
+        Err(fault) => refused(fault),
     }
 }
 

@@ -11,7 +11,6 @@ use Rattle.python_brace_format.specs.BraceFormat as brace_format
 use Rattle.php_format.specs.PhpFormat as php_format
 use Rattle.named_formats.specs.declared.Notation.TheVariants as names
 use Rattle.named_formats.specs.NameFormat as named_formats
-use Rattle.numbered_arguments.specs.declared.Numbered.{Numbered}
 use Rattle.numbered_formats.specs.declared.Notation.{Notation as NumberNotation}
 use Rattle.numbered_formats.specs.NumberFormat as numbered_formats
 use Rattle.script_formats.specs.declared.Notation.{Notation as ScriptNotation}

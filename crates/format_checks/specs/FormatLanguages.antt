@@ -1,5 +1,5 @@
 -- Formats of each language: their arguments, and when two formats agree.
-use Rattle.std.specs.Prelude.{◌≡◌, ℕ, Bool, true, false, List, Option, Some, None, MatchOption}
+use Rattle.std.specs.Prelude.{ℕ, Bool, true, false, List, Option, Some, None, MatchOption}
 use Rattle.std.specs.Option.{option_map_or}
 use Rattle.format_arguments.specs.declared.FormatFault.{FormatFault}
 use Rattle.format_arguments.specs.declared.FormatFault.TheVariants.{Invalid, Memory}

@@ -32,9 +32,7 @@ fn is_named(language: Language) -> bool
 }
 
 /// The arguments of a format with names.
-#[tactic(auto, using(
-    crate::proofs::Failing::python, crate::proofs::Failing::brace, crate::proofs::Failing::shell,
-    crate::proofs::Failing::perl_brace))]
+#[tactic(auto, using(crate::proofs::Failing::python, crate::proofs::Failing::brace, crate::proofs::Failing::shell, crate::proofs::Failing::perl_brace))]
 fn named_arguments(
     alloc: Global,
     language: Language,
@@ -81,10 +79,7 @@ fn number_of(language: Language) -> Option<Numbers>
 }
 
 /// The arguments of a format with numbers.
-#[tactic(auto, using(
-    crate::proofs::Failing::script, crate::proofs::Failing::number, crate::proofs::Failing::java,
-    crate::proofs::Failing::java_printf, crate::proofs::Failing::csharp, crate::proofs::Failing::librep,
-    crate::proofs::Failing::kuit, crate::proofs::Failing::php))]
+#[tactic(auto, using(crate::proofs::Failing::script, crate::proofs::Failing::number, crate::proofs::Failing::java, crate::proofs::Failing::java_printf, crate::proofs::Failing::csharp, crate::proofs::Failing::librep, crate::proofs::Failing::kuit, crate::proofs::Failing::php))]
 fn numbered_arguments(
     alloc: Global,
     language: Language,
