@@ -220,14 +220,14 @@ static bool wants_statistics(const struct request *request) {
     return request->wants_statistics || request->verbosity > 0;
 }
 
-/* The name under which Kobdzila's msgfmt reads a text that was converted. */
-static char recoded_name[] = "/dev/fd/9";
-enum { RECODED_AS = 9 };
+/* The name of a text that was converted, which Kobdzila's msgfmt reads from its standard input. */
+static char recoded_name[] = "-";
 
 /* Write the name of the PO file in place of the name that msgfmt read the text under. */
 static void name_input(struct run *run, struct answer *answer) {
-    size_t old_len = strlen(recoded_name), len = strlen(run->input_name), count = 0;
-    for (char *line = answer->said; (line = strstr(line, recoded_name)); line += old_len)
+    static const char front[] = "-:";
+    size_t len = strlen(run->input_name), count = 0;
+    for (char *line = answer->said; (line = strstr(line, front)); line++)
         count++;
     char *lines = malloc(answer->len + count * len + 1), *to = lines;
     if (!lines)
@@ -235,9 +235,9 @@ static void name_input(struct run *run, struct answer *answer) {
     for (char *line = answer->said, *end; *line; line = end) {
         end = strchrnul(line, '\n');
         end += *end == '\n';
-        if (!strncmp(line, recoded_name, old_len)) {
+        if (!strncmp(line, front, strlen(front))) {
             to = mempcpy(to, run->input_name, len);
-            line += old_len;
+            line++;
         }
         to = mempcpy(to, line, (size_t)(end - line));
     }
@@ -268,8 +268,7 @@ static struct answer run_ours(struct run *run, const char *output, int standard_
         lseek(run->text.kept, 0, SEEK_SET);
     if (run->recoded >= 0) {
         lseek(run->recoded, 0, SEEK_SET);
-        streams.extra = run->recoded;
-        streams.extra_as = RECODED_AS;
+        streams.input = run->recoded;
     }
     streams.output = standard_output;
     streams.errors = unnamed_file();
@@ -464,7 +463,8 @@ static bool has_lost_reader(const struct run *run) {
 }
 
 /* End a run that Kobdzila's msgfmt has served, with its output and exit status. */
-_Noreturn static void end_by_ours(struct run *run, struct answer *answer, const char *why) {
+/* `why` is the reason for which GNU msgfmt would have been run, or empty; it is told if the text was refused. */
+_Noreturn static void end_by_ours(struct run *run, struct answer *answer, const char *why, bool is_refused) {
     if (answer->ending.failure && !run->ours)
         stop("cannot keep the output: ", strerror(answer->ending.failure));
     if (answer->ending.failure) {
@@ -480,7 +480,7 @@ _Noreturn static void end_by_ours(struct run *run, struct answer *answer, const 
     }
     char reason[WHY_SIZE + sizeof "; no GNU msgfmt"];
     snprintf(reason, sizeof reason, "%s%s", why, *why ? "; no GNU msgfmt" : "");
-    if (*why)
+    if (*why && is_refused)
         tell("msgfmt-or-gnu: no GNU msgfmt on the PATH to run in its place (%s)%s", why, in_gettext);
     log_files(run->request, "ours", answer->ending.status, reason, milliseconds_of(run));
     end_as(answer->ending);
@@ -513,7 +513,7 @@ _Noreturn static void compile_text(struct run *run, const char *why) {
     if (refusal && has_gnu(run))
         end_by_gnu(run, refusal);
     const char *reason = *why ? why : refusal ? refusal : "";
-    end_by_ours(run, &answer, refusal || answer.ending.status ? reason : "");
+    end_by_ours(run, &answer, reason, refusal || answer.ending.status);
 }
 
 /* Convert the text if its charset asks for it. A text with a byte that has no character is left to GNU msgfmt. */

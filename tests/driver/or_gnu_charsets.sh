@@ -112,3 +112,14 @@ for it in 'utf8.po:1: not UTF-8' 'maltese.po:1: not UTF-8'; do
   if [ $status = 1 ] && [ "$(head -n 1 err)" = "$it" ] && sed -n 2p err | grep -q "^$missing"; then ok "driver, without GNU msgfmt, $it"
   else failed "driver, without GNU msgfmt, $it" "$status, $(cat err)"; fi
 done
+
+# where /proc isn't mounted, as in a bare chroot
+if [ "$(id -u)" = 0 ] && unshare -m true 2> /dev/null; then
+  rm -f x.mo
+  unshare -m sh -c "mount -t tmpfs none /proc && PATH=/nonexistent '$driver' -o x.mo latin.po" 2> err
+  status=$?
+  if [ $status = 0 ] && [ -s x.mo ]; then ok 'driver, a text that is converted, without /proc'
+  else failed 'driver, a text that is converted, without /proc' "$status, $(cat err)"; fi
+else
+  skipped 'driver, a text that is converted, without /proc' 'this is not root, or it has no mount namespaces'
+fi
