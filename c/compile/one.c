@@ -175,6 +175,17 @@ static void compile_text(const struct run *run, struct catalogue *it, struct tex
     kob_release(made);
 }
 
+/* The text in UTF-8, if it is decoded under a name that GNU msgfmt calls portable, so that no byte within a character is
+ * taken for a backslash. Otherwise the text as it is, which the library may decode all the same. *owned is freed by the
+ * caller. False if memory runs out. */
+static bool take_utf8(struct text_bytes *text, char **owned) {
+    size_t len;
+    enum recoding done = recode_text((struct part){text->at, text->at + text->len}, owned, &len);
+    if (done == RECODED)
+        *text = (struct text_bytes){*owned, len};
+    return done != NO_MEMORY;
+}
+
 void compile_one(const struct run *run, struct catalogue *it) {
     struct text_bytes text;
     unsigned char *bytes = file_bytes(it->po, REGULAR_FILES, MOST_TEXT, &text.len);
@@ -183,7 +194,11 @@ void compile_one(const struct run *run, struct catalogue *it) {
         end_with(it, IS_UNREAD, errno);
         return;
     }
-    if (!serve_flag_lines(run, it, text))
+    char *utf8 = NULL;
+    if (!take_utf8(&text, &utf8))
+        end_with(it, IS_UNREAD, ENOMEM);
+    else if (!serve_flag_lines(run, it, text))
         compile_text(run, it, text);
+    free(utf8);
     free(bytes);
 }

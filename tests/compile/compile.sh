@@ -400,6 +400,9 @@ for i in range(0, len(text), 80):
 done
 { header BIG5 zh && printf 'msgid "a"\nmsgstr "\245"\n'; } > wide/BIG5.po
 says 'compile, an incomplete character, --no-gnu' 1 'wide/BIG5.po:5: byte without a character' --no-gnu -q wide/BIG5.po
+{ header BIG5 zh && printf '#, python-format\nmsgid "%%(a)s"\nmsgstr "\263\\%%(b)s"\n'; } > wide/BIG5.po
+says 'compile, formats beside a byte that is a backslash in ASCII' 1 \
+  "wide/BIG5.po:6: a format specification for argument 'a' doesn't exist in 'msgstr'" --no-gnu -c -q wide/BIG5.po
 { header EUC-TW zh && printf 'msgid "hi"\nmsgstr "\304\343"\n\n#, fuzzy\nmsgid "a"\nmsgstr "b"\n'; } > euc/zh.po
 { header UTF-8 fr && printf '#= fuzzy\nmsgid "a"\nmsgstr "b"\n'; } > flags.po
 says 'compile, another charset, --no-gnu' 1 'euc/zh.po:5: not UTF-8' --no-gnu -q euc
