@@ -60,13 +60,9 @@ fn is_decoded(alloc: Global, row: &Row) -> bool {
 
 #[test]
 fn decodes_several_bytes(rt: HostRuntime) -> Result<(), Fail> {
-    let mut wrong = 0;
     for row in ROWS {
-        if !is_decoded(rt.alloc(), row) {
-            wrong += 1;
-        }
+        assert!(rt; is_decoded(rt.alloc(), row));
     }
-    assert!(rt; wrong == 0);
     Ok(())
 }
 

@@ -1,9 +1,8 @@
-use Rattle.std.proofs.Common.{◌≡◌, ℕ, ◌<◌, List, length, get_or, sym, ap, ◌∙◌, below_more, arith}
+use Rattle.std.proofs.Common.{◌≡◌, List, length, get_or, sym, ap, ◌∙◌, below_more, arith}
 use Rattle.std.proofs.lemmas.List.{get_or_default}
 use Rattle.charsets.specs.declared.kinds.Charset.{Charset}
 use Rattle.charsets.specs.declared.kinds.Charset.TheVariants.{Ascii}
 use Rattle.charsets.specs.Every.{all}
-use Rattle.charsets.specs.Naming.{IsNameOf}
 use Rattle.charsets.proofs.Every.{every}
 use Rattle.charsets.proofs.naming.charset_of.Goals as goal
 

@@ -1,7 +1,6 @@
-use Rattle.std.proofs.Common.{◌≡◌, ℕ, ◌<◌, List, length, get_or, [], sym, ap, ◌∙◌, below_more, arith}
+use Rattle.std.proofs.Common.{◌≡◌, length, get_or, [], sym, ap, ◌∙◌, below_more, arith}
 use Rattle.std.proofs.lemmas.List.{get_or_default, length-map}
 use Rattle.charsets.specs.CharsetNames.{names}
-use Rattle.charsets.specs.Naming.{IsSameName}
 use Rattle.charsets.proofs.NameLists.{item_is}
 use Rattle.charsets.proofs.naming.is_name_of.Goals as goal
 

@@ -1,4 +1,4 @@
-use Rattle.std.proofs.Common.{ℕ, ◌<◌, map, get_or, []}
+use Rattle.std.proofs.Common.{ℕ, ◌<◌, get_or, []}
 use Rattle.charsets.specs.CharsetNames.{names}
 use Rattle.charsets.specs.Naming.{IsSameName}
 use Rattle.charsets.proofs.naming.is_name_of.Given as goal
