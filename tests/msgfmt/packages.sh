@@ -5,7 +5,8 @@
 # (docs/guide/build-systems.md).
 #
 #   tests/msgfmt/packages.sh           the packages of tests/msgfmt/packages/list, which apt-get fetches once into
-#   build/packages tests/msgfmt/packages.sh FOLDER    the PO files below FOLDER, and no builds
+#                                      build/packages
+#   tests/msgfmt/packages.sh FOLDER    the PO files below FOLDER, and no builds
 #
 # The summary is written to build/packages/summary.md; docs/reference/gnu-differences.md has one.
 . "$(dirname "$0")/../lib/common"
@@ -16,6 +17,7 @@ if ! tests/lib/needs tools/gnu-msgfmt gettext; then
   skipped packages 'no GNU gettext, and it could not be installed'
   exit 0
 fi
+
 # compares FOLDER
 compares() {
   python3 -B tests/msgfmt/packages/compare.py "$program" "$(tools/gnu-msgfmt)" "$1" tests/msgfmt/packages/reasons "$store/summary.md"
