@@ -87,6 +87,7 @@ declare -A left=(
   [msgfmt/every_call]='its program, crates/test_every_call, is built by the gate, for this machine'
   [scripts/serve]='its program, crates/test_every_call, is built by the gate, for this machine'
   [scripts/store]='its program, crates/test_every_call, is built by the gate, for this machine'
+  [mo/installed]="this machine's python3 loads no library of another"
   [mo/revisions]="this machine's python3 loads no library of another"
   [msgfmt/processor]='it is about x86-64-v2; what was built runs here on the first processor of aarch64'
 )

@@ -136,10 +136,13 @@ def differences(data: bytes, glibc: Glibc, counts: Counter[str]) -> list[str]:
     """What differs between libkobdzila's catalogue of a file, the reader above and glibc; nothing of a file that is
     refused."""
     try:
-        ours = kobdzila.Translations(data)
+        return differences_of(kobdzila.Translations(data), data, glibc, counts)
     except kobdzila.Refused as refusal:
         counts[f"refused: {refusal}"] += 1
         return []
+
+
+def differences_of(ours: kobdzila.Translations, data: bytes, glibc: Glibc, counts: Counter[str]) -> list[str]:
     revision = revision_of(data)
     counts[f"of revision {revision >> 16}.{revision & 0xFFFF}"] += 1
     domain, wrong, mine, texts = glibc.domain(data), [], {}, read(data)

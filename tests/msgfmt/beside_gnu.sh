@@ -56,9 +56,12 @@ row 'a domain line' '' 0.0 refused 'unknown word' <<< 'domain "x"\nmsgid "a"\nms
 row 'a NUL' '' 0.0 refused 'bad text' <<< 'msgid "a\\0b"\nmsgstr "c"\n'
 row 'an escape in hexadecimal digits' '' 0.0 refused 'bad escape' <<< 'msgid "a"\nmsgstr "\\x41"\n'
 row 'an octal escape above 255' '' 0.0 refused 'bad escape' <<< 'msgid "a"\nmsgstr "x\\501"\n'
-for pair in '%%s %%hs' '%%S %%LS' '%%p %%lp' '%%s:%%m %%1$s:%%2$m'; do
+for pair in '%%s %%hs' '%%S %%LS' '%%p %%lp' '%%zu %%Zu' '%%Lf %%llf' '%%s:%%m %%1$s:%%2$m'; do
   row "a directive in other letters, $pair" -c 0.0 refused 'format arguments differ' \
     <<< "$plain#, c-format\nmsgid \"${pair% *}\"\nmsgstr \"${pair#* }\"\n"
+done
+for it in '%%hs' '%%Zu' '%%llf'; do
+  row "another argument than that of $it" -c refused 0.0 <<< "$plain#, c-format\nmsgid \"$it\"\nmsgstr \"%%d\"\n"
 done
 differ="$plain"'msgid "a\\n"\nmsgstr "b"\n'
 row 'newlines that differ' '' refused 0.0 <<< "$differ"

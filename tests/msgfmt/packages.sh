@@ -5,18 +5,18 @@
 # (docs/guide/build-systems.md).
 #
 #   tests/msgfmt/packages.sh           the packages of tests/msgfmt/packages/list, which apt-get fetches once into
-#   build/packages tests/msgfmt/packages.sh FOLDER    the PO files below FOLDER, and no builds
+#                                      build/packages
+#   tests/msgfmt/packages.sh FOLDER    the PO files below FOLDER, and no builds
 #
 # The summary is written to build/packages/summary.md; docs/reference/gnu-differences.md has one.
 . "$(dirname "$0")/../lib/common"
 . tests/lib/projects
+. tests/lib/sources
 
 if ! tests/lib/needs tools/gnu-msgfmt gettext; then
   skipped packages 'no GNU gettext, and it could not be installed'
   exit 0
 fi
-store=$PWD/build/packages
-mkdir -p "$store/tar"
 
 # compares FOLDER
 compares() {
@@ -28,22 +28,6 @@ if [ $# != 0 ]; then
   compares "$1"
   exit 0
 fi
-
-# archive PACKAGE: the path of its source, where it was fetched
-archive() { find "$store/tar" -name "$1_*.tar.*" ! -name '*.asc' | head -n 1; }
-
-# fetches PACKAGE ..: by apt-get, from this machine's release of Debian and with a configuration of its own
-fetches() {
-  local release apt keys=/usr/share/keyrings/debian-archive-keyring.gpg
-  release=$(. /etc/os-release && [ "$ID" = debian ] && echo "$VERSION_CODENAME") || return 1
-  [ -f $keys ] && command -v apt-get > /dev/null || return 1
-  mkdir -p "$room/lists" "$room/cache"
-  echo "deb-src [signed-by=$keys] http://deb.debian.org/debian $release main" > "$room/sources.list"
-  apt=(timeout 600 apt-get -qq -o Dir::Etc::SourceList="$room/sources.list" -o Dir::Etc::SourceParts=/dev/null)
-  apt+=(-o Dir::State::Lists="$room/lists" -o Dir::Cache="$room/cache" -o APT::Sandbox::User=)
-  apt+=(-o Acquire::Retries=1 -o Acquire::http::Timeout=20)
-  "${apt[@]}" update && (cd "$store/tar" && "${apt[@]}" source --tar-only "$@")
-}
 
 read -r -d '' -a packages < <(grep -v '^#' tests/msgfmt/packages/list)
 # (Django's many catalogues are built below, and not compared)
