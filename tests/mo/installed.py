@@ -32,7 +32,7 @@ import kobdzila_ctypes as kobdzila
 from revisions import Glibc, differences_of, read, revision_of
 
 # Charsets of several bytes, which libkobdzila doesn't decode (docs/reference/headers.md): their files stay with glibc.
-NOT_DECODED = {"BIG5", "CP932", "EUC-JP", "EUC-KR", "GB2312", "GBK"}
+NOT_DECODED = {"CP932"}
 NUMBERS = [*range(31), 100, 101, 102, 111, 112, 1000, 1_000_000]
 OF_A_PROCESS = 100  # files, since glibc keeps all that it has read
 NAMED = 3  # differences of a file that are printed
