@@ -182,8 +182,7 @@ class Store:
 
 def opened(run, label, most, answer='gives Ok'):
     """A new store, or None where memory for it was refused."""
-    faults = ['gives Err(Memory)', 'gives Err(NoPlace)']
-    return Store(run, most) if run.call(f'open_store, {label}, ', answer, faults) else None
+    return Store(run, most) if run.call(f'open_store, {label}, ', answer, ['gives Err(Memory)']) else None
 
 
 def open_store(run):

@@ -1,12 +1,12 @@
-//! How a program with a store and one of its readers at hand sees that they agree.
+//! How a program with a store and one of its readers at hand compares what is published with what was seen.
 ghost use Rattle.std.specs.Prelude.{◌↔◌, IsTrue};
 ghost use Rattle.c_handles.specs.Levels.{AreOfOneStore, HasMet, IsLevelWith};
 
 use c_sets::{HeldSet, Origin};
 use c_stores::{HeldStore, enter_after, notice};
 
-/// Enters what is published in a store of this reader, or a later version. If the reader isn't told to be busy, both
-/// agree: what is published in the store is a beginning of what the reader has seen.
+/// Enters what is published in a store of this reader, or a later version. If the reader isn't told to be busy, what is
+/// published in the store is a beginning of what it has seen. It may have seen more, so this isn't the agreement.
 pub fn meet(store: &HeldStore, reader: HeldSet) -> HeldSet
     requires { AreOfOneStore store.now reader }
     ensures { HasMet store.now reader result }

@@ -1,4 +1,5 @@
-//! What all calls of a C program on its handles come to: one legal history of each live store, with its readers.
+//! What calls of a C program on its handles come to: one legal history of each live store, with its readers, if they
+//! agree at the end.
 #![tactic(auto)]
 
 mod agreement;
