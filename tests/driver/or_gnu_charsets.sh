@@ -49,11 +49,14 @@ done
 converted 'BIG5, second bytes that are backslashes' big5.po -c
 { header EUC-JP ja && printf 'msgid "a"\nmsgstr "\244\242 \216\261 \217\260\241"\n'; } > euc.po
 converted 'EUC-JP, kana of half a width and three bytes' euc.po -c
-for it in 'EUC-KR ko \260\241' 'GB2312 zh_CN \260\241' 'GBK zh_CN \201\\'; do
-  read -r charset language bytes <<< "${it//\\/\\\\}"
-  { header "$charset" "$language" && printf "msgid \"a\"\nmsgstr \"${bytes}\"\n"; } > wide.po
-  converted "$charset" wide.po -c
-done
+# wide CHARSET LANGUAGE BYTES: a text with these bytes, for printf
+wide() {
+  { header "$1" "$2" && printf "msgid \"a\"\nmsgstr \"$3\"\n"; } > wide.po
+  converted "$1" wide.po -c
+}
+wide EUC-KR ko '\260\241'
+wide GB2312 zh_CN '\260\241'
+wide GBK zh_CN '\201\134'
 
 text ISO-8859-1 > latin.po
 converted 'checks and fuzzy messages' latin.po -c -f
