@@ -23,7 +23,9 @@ def differences(theirs, ours):
         if plural is not None:
             name = "ngettext" if context is None else "npgettext"
             front = () if context is None else (context,)
-            calls = [(name, front + (msgid, plural, n)) for n in range(31)]
+            # (of a form that isn't in the file Python makes the msgid, and glibc the first form)
+            calls = [(name, front + (msgid, plural, n)) for n in range(31)
+                     if (key_of(context, msgid), theirs.plural(n)) in theirs._catalog]
         for name, words in calls:
             asked += 1
             if getattr(theirs, name)(*words) != getattr(ours, name)(*words):
