@@ -313,8 +313,8 @@ for signal in INT TERM KILL; do
     pid=$!
     set +m
     # (a shell that hasn't become the program yet would end this script's room)
-    until [ "$(readlink "/proc/$pid/exe")" = "$(readlink -f "$tested")" ] || ! kill -0 $pid 2> kill; do sleep 0.001; done
-    sleep "0.00$it"
+    until [ ! "/proc/$pid/exe" -ef /proc/$$/exe ]; do sleep 0.001; done
+    sleep "0.$(printf %03d $((it * slower)))"
     kill -$signal $pid 2> kill
     wait $pid 2> kill
     status=$?
@@ -323,7 +323,7 @@ for signal in INT TERM KILL; do
       run -q --force many
       [ $status = 0 ] || wrong+="status $status after it "
     fi
-    are_whole || wrong+="after 0.00$it s: $(find many -name '.*' | head -n 2) "
+    are_whole || wrong+="after $((it * slower)) ms: $(find many -name '.*' | head -n 2) "
   done
   if [ -z "$wrong" ]; then ok "compile, SIG$signal in the middle: the MO files are whole, and nothing is left over"
   else failed "compile, SIG$signal in the middle" "$wrong"; fi

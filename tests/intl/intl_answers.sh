@@ -38,7 +38,7 @@ if sanitized "$name, sanitized" address,undefined; then
     -Wl,--no-as-needed -L"$folder" -l:libkobdzila-intl.so -Wl,-rpath,"$folder" || exit 0
   closely=("$room/ask_closely")
 fi
-said=$(timeout 900 python3 -B tests/intl/intl_answers.py "$room" "$room/ask" "$library/libkobdzila-intl.so" "${closely[@]}" 2>&1)
+said=$(timeout $((900 * slower)) python3 -B tests/intl/intl_answers.py "$room" "$room/ask" "$library/libkobdzila-intl.so" "${closely[@]}" 2>&1)
 status=$?
 if [ "$status" = 0 ] && ! grep -q '^wrong' <<< "$said"; then
   ok "$name: $(tail -n 1 <<< "$said")"

@@ -15,7 +15,7 @@ wrapped=-Wl,--wrap=malloc,--wrap=realloc,--wrap=free
 # all_sequences HOW PROGRAM LENGTH: each sequence of LENGTH calls
 all_sequences() {
   local said
-  if said=$(timeout 900 "$room/$2" "$3" 2>&1); then
+  if said=$(timeout $((900 * slower)) "$room/$2" "$3" 2>&1); then
     ok "$name, each order of $3 calls, $1: $said"
   else
     failed "$name, each order of $3 calls, $1" "status $?, $(head -c 400 <<< "$said")"

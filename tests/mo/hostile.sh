@@ -23,14 +23,14 @@ fi
 makes_opener() { cc -O2 -Iinclude -o "$room/hostile" tests/mo/hostile.c "$1"; }
 
 # open_file: what the library answers of $room/file: 'read N' or 'refusal K', and the seconds after a comma
-open_file() { timeout 60 "$room/hostile" "$room/file"; }
+open_file() { timeout $((60 * slower)) "$room/hostile" "$room/file"; }
 
 # load_file: what catserve answers of $room/file, in the same form
 load_file() {
   { printf 'loadmo\tapp\tfr\t' && hex < "$room/file" && echo; } > "$room/script"
   local seconds
   TIMEFORMAT='%U %S'
-  seconds=$({ time timeout 60 "$catserve" < "$room/script" > "$room/out" 2> "$room/err"; } 2>&1) || return
+  seconds=$({ time timeout $((60 * slower)) "$catserve" < "$room/script" > "$room/out" 2> "$room/err"; } 2>&1) || return
   awk -F '\t' -v "seconds=$seconds" '
     BEGIN { split(seconds, spent, " ") }
     /^accepted-mo/ { answer = "read " $2 }
@@ -39,20 +39,21 @@ load_file() {
 }
 
 # is_read SHAPE BYTES MOST READER: READER answers a file of this shape and size in at most MOST seconds
+# (times $slower)
 is_read() {
-  local wanted got status seconds name="the hostile file $1 of $(($2 / 1000000)) MB"
+  local wanted got status seconds most=$(($3 * slower)) name="the hostile file $1 of $(($2 / 1000000)) MB"
   wanted=$(python3 -B tests/mo/make_hostile.py "$1" "$2" "$room/file") || exit 1
   got=$("$4")
   status=$?
   seconds=${got##*, }
   if [ "$status" = 124 ]; then
-    failed "$name" 'it had not been read after 60 seconds'
+    failed "$name" "it had not been read after $((60 * slower)) seconds"
   elif [ "$status" != 0 ]; then
     failed "$name" "status $status"
   elif [ "${got%, *}" != "$wanted" ]; then
     failed "$name" "'${got%, *}', and not '$wanted'"
-  elif awk "BEGIN { exit !($seconds > $3) }"; then
-    failed "$name" "$seconds seconds, and not $3 at most"
+  elif awk "BEGIN { exit !($seconds > $most) }"; then
+    failed "$name" "$seconds seconds, and not $most at most"
   else
     ok "$name: $wanted, in $seconds seconds"
   fi

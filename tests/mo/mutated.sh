@@ -33,7 +33,7 @@ if [ -x "$catsession" ]; then
 else
   lines=-
 fi
-if said=$(timeout 300 "$room/mutate" 7 100000 "$room/got" "$lines" "${files[@]}" 2>&1); then
+if said=$(timeout $((300 * slower)) "$room/mutate" 7 100000 "$room/got" "$lines" "${files[@]}" 2>&1); then
   ok "$name, sanitized: ${said##*files, }"
 else
   failed "$name, sanitized" "$(head -c 600 <<< "$said")"
@@ -64,7 +64,7 @@ END
 done
 if [ -z "$gnu" ]; then
   skipped "$name_of_revised" 'no GNU msgfmt'
-elif said=$(timeout 300 "$room/mutate" 11 100000 - - "$room"/revised*.mo 2>&1); then
+elif said=$(timeout $((300 * slower)) "$room/mutate" 11 100000 - - "$room"/revised*.mo 2>&1); then
   ok "$name_of_revised: ${said##*files, }"
 else
   failed "$name_of_revised" "$(head -c 600 <<< "$said")"

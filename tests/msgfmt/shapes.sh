@@ -16,11 +16,11 @@ if ! command -v python3 > /dev/null; then
 fi
 for shape in $(python3 tests/msgfmt/make_shape.py); do
   python3 tests/msgfmt/make_shape.py "$shape" "$room/in" "$room/wanted" || exit 1
-  timeout 20 "$program" -o - - < "$room/in" > "$room/out" 2> "$room/err"
+  timeout $((20 * slower)) "$program" -o - - < "$room/in" > "$room/out" 2> "$room/err"
   status=$?
   name="the shape $shape"
   if [ "$status" = 124 ]; then
-    failed "$name" 'it had not ended after 20 seconds'
+    failed "$name" "it had not ended after $((20 * slower)) seconds"
   elif [ "$status" != 0 ]; then
     failed "$name" "status $status; it said '$(head -c 300 "$room/err")'"
   elif why=$(cmp "$room/wanted" "$room/out" 2>&1); then
@@ -32,11 +32,11 @@ done
 
 name='64 MiB of the shortest entries take 600 MiB at most'
 awk 'BEGIN { for (i = 0; i < 4473924; i++) printf "msgid\"\"msgstr\"\"" }' > "$room/in"
-peak=$(python3 - "$program" "$room/in" "$room/err" << 'END'
+peak=$(python3 - "$program" "$room/in" "$room/err" $((60 * slower)) << 'END'
 import resource, subprocess, sys
-program, text, errors = sys.argv[1:]
+program, text, errors, most = sys.argv[1:]
 with open(text) as given, open(errors, "w") as said:
-    status = subprocess.run([program, "-o", "/dev/null", "-"], stdin=given, stderr=said, timeout=60).returncode
+    status = subprocess.run([program, "-o", "/dev/null", "-"], stdin=given, stderr=said, timeout=int(most)).returncode
 print(status, resource.getrusage(resource.RUSAGE_CHILDREN).ru_maxrss // 1024)
 END
 )
@@ -49,23 +49,23 @@ else
   ok "$name"
 fi
 
-# answers_in_time NAME PROGRAM: the program answers $room/in with $room/wanted, and takes 5 seconds at most
+# answers_in_time NAME PROGRAM: the program answers $room/in with $room/wanted, and takes 5 seconds at most (times $slower)
 answers_in_time() {
-  local seconds status why TIMEFORMAT='%U %S'
+  local seconds status why most=$((5 * slower)) TIMEFORMAT='%U %S'
   if [ ! -x "$2" ]; then
     failed "$1" "there is no $2: make builds it"
     return
   fi
-  seconds=$({ time timeout 60 "$2" < "$room/in" > "$room/out" 2> "$room/err"; } 2>&1)
+  seconds=$({ time timeout $((60 * slower)) "$2" < "$room/in" > "$room/out" 2> "$room/err"; } 2>&1)
   status=$?
   if [ "$status" = 124 ]; then
-    failed "$1" 'it had not ended after 60 seconds'
+    failed "$1" "it had not ended after $((60 * slower)) seconds"
   elif [ "$status" != 0 ]; then
     failed "$1" "status $status; it said '$(head -c 300 "$room/err")'"
   elif ! why=$(cmp "$room/wanted" "$room/out" 2>&1); then
     failed "$1" "other answers: $why"
-  elif awk "BEGIN { split(\"$seconds\", spent, \" \"); exit !(spent[1] + spent[2] > 5) }"; then
-    failed "$1" "user and system took $seconds seconds, and not 5 together at most"
+  elif awk "BEGIN { split(\"$seconds\", spent, \" \"); exit !(spent[1] + spent[2] > $most) }"; then
+    failed "$1" "user and system took $seconds seconds, and not $most together at most"
   else
     ok "$1"
   fi

@@ -85,7 +85,7 @@ fi
 is_run_without_threads() {
   local name="script, $(basename "$2"), no thread from $1 on"
   rm -f "$room/refused"
-  timeout 20 env REFUSE_FROM="$1" REFUSED="$room/refused" LD_PRELOAD="$room/refuse_threads.so" "$program" \
+  timeout $((20 * slower)) env REFUSE_FROM="$1" REFUSED="$room/refused" LD_PRELOAD="$room/refuse_threads.so" "$program" \
     < "$2" > "$room/out" 2> "$room/err"
   local status=$?
   if [ $status != 0 ] || [ -s "$room/err" ] || ! cmp -s "$room/out" "$3"; then

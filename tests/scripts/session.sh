@@ -97,7 +97,7 @@ says() {
 
 # runs WORD..: runs the session on standard input
 runs() {
-  timeout 60 "$session" "$@" > "$room/out" 2> "$room/err"
+  timeout $((60 * slower)) "$session" "$@" > "$room/out" 2> "$room/err"
   status=$?
 }
 
@@ -227,7 +227,7 @@ if makes_library refuse_threads 'session, threads refused'; then
   while [ $n = 0 ] || [ -e "$room/refused" ]; do
     n=$((n + 1))
     rm -f "$room/refused"
-    timeout 20 env REFUSE_FROM=$n REFUSED="$room/refused" LD_PRELOAD="$room/refuse_threads.so" "$session" \
+    timeout $((20 * slower)) env REFUSE_FROM=$n REFUSED="$room/refused" LD_PRELOAD="$room/refuse_threads.so" "$session" \
       < $script > "$room/out" 2> "$room/err"
     status=$?
     as_ever || wrong+="from $n on: status $status, '$(cat "$room/err")'; "
