@@ -23,7 +23,7 @@ compiles() {
 runs() {
   local name=$1 said
   shift
-  if said=$(cd "$room" && timeout 300 "$@" 2>&1) && [ -z "$said" ]; then
+  if said=$(cd "$room" && timeout $((300 * slower)) "$@" 2>&1) && [ -z "$said" ]; then
     ok "$name"
   else
     failed "$name" "$(head -c 300 <<< "$said")"
@@ -68,7 +68,7 @@ if command -v python3 > /dev/null; then
     python3 -B tests/library/c_library.py script "$room"/mutated/* > "$room/script"
     "$catserve" < "$room/script" 2> "$room/err" |
       awk -F '\t' '/^accepted-mo/ { print "accepted " $2 } /^refused-mo/ { print "refused " $2 }' > "$room/wanted"
-    timeout 300 "$room/c_library" refusals "$room"/mutated/* > "$room/got" 2>&1
+    timeout $((300 * slower)) "$room/c_library" refusals "$room"/mutated/* > "$room/got" 2>&1
     if [ "$(wc -l < "$room/wanted")" = 1000 ] && as_utf8 "$room/wanted" "$room/got" | cmp -s "$room/wanted" -; then
       ok "$name: $(grep -c refused "$room/got") refused"
     else
@@ -81,10 +81,10 @@ if command -v python3 > /dev/null; then
   # installed catalogues, compared with Python's own gettext
   tests/lib/needs tools/gnu-msgfmt gettext
   find /usr/share/locale -name '*.mo' 2> /dev/null | sort | head -n 400 > "$room/installed"
-  if [ -n "${EMULATED:-}" ]; then
-    skipped 'the C library from Python' "this machine's python3 loads no library of another"
-  elif said=$(LIBKOBDZILA=$PWD/$library/libkobdzila.so.0 PYTHONPATH=examples/python timeout 600 \
-    python3 -B tests/library/c_library.py installed < "$room/installed" 2>&1) && ! grep -q '^wrong' <<< "$said"; then
+  if ! has_python 'the C library from Python'; then
+    :
+  elif said=$(LIBKOBDZILA=$PWD/$library/libkobdzila.so.0 PYTHONPATH=examples/python timeout $((600 * slower)) \
+    "$python" -B tests/library/c_library.py installed < "$room/installed" 2>&1) && ! grep -q '^wrong' <<< "$said"; then
     ok "the C library from Python: $(tail -n 1 <<< "$said")"
   else
     failed 'the C library from Python' "$(head -c 300 <<< "$said")"

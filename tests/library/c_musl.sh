@@ -7,14 +7,18 @@ no_program=1
 name='the C library with musl'
 
 has_library "$name" || exit 0
-if ! tests/lib/needs musl-gcc musl-tools; then
+if [ -n "${EMULATED:-}" ]; then
+  folder=$(tests/lib/emulated_system) || { skipped "$name" "$folder"; exit 0; }
+  script musl-gcc "exec cc \"\$@\" -specs '$folder/musl-gcc.specs'"
+  export PATH=$room:$PATH QEMU_LD_PREFIX=$folder
+elif ! tests/lib/needs musl-gcc musl-tools; then
   skipped "$name" 'no musl-gcc, and it could not be installed'
   exit 0
 fi
 tree=$room/tree
-mkdir -p "$tree/crates/kobdzila_c/out"
+mkdir -p "$tree"
 cp -r c include tools crates.txt "$tree"
-cp crates/kobdzila_c/out/libkobdzila_c.a "$tree/crates/kobdzila_c/out"
+cp --parents "$(tools/machine core)" "$tree"
 if ! CC=musl-gcc CPPFLAGS=-Werror "$tree/tools/build_library" --made > "$room/log" 2>&1; then
   failed "$name" "$(tail -n 2 "$room/log")"
   exit 1

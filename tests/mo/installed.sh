@@ -13,9 +13,8 @@ name='installed MO files'
 [ $# != 0 ] || set -- /usr
 
 has_library "$name" || exit 0
-if ! tests/lib/needs python3 python3; then
-  skipped "$name" 'no python3, and it could not be installed'
-elif ! getconf GNU_LIBC_VERSION > "$room/libc" 2>&1; then
+has_python "$name" || exit 0
+if ! getconf GNU_LIBC_VERSION > "$room/libc" 2>&1; then
   skipped "$name" 'the C library is another one'
 elif ! LC_ALL=C.UTF-8 locale charmap 2> /dev/null | grep -qx UTF-8; then
   skipped "$name" 'no locale C.UTF-8'
@@ -26,7 +25,7 @@ else
     exit 0
   fi
   export LIBKOBDZILA=$library/libkobdzila.so.0 PYTHONPATH=examples/python:tests/intl
-  said=$(timeout 1200 python3 -B tests/mo/installed.py "${EVERY:-$(((files + 4999) / 5000))}" "$@" 2>&1)
+  said=$(timeout $((1200 * slower)) "$python" -B tests/mo/installed.py "${EVERY:-$(((files + 4999) / 5000))}" "$@" 2>&1)
   if [ $? != 0 ] || grep -q '^wrong' <<< "$said"; then
     failed "$name" "$(tail -n 1 <<< "$said"); $(head -c 1500 <<< "$said")"
   else

@@ -8,17 +8,14 @@ no_program=1
 name='MO files of each revision'
 
 has_library "$name" || exit 0
-if ! tests/lib/needs python3 python3; then
-  skipped "$name" 'no python3, and it could not be installed'
-  exit 0
-fi
+has_python "$name" || exit 0
 export LIBKOBDZILA=$library/libkobdzila.so.0 PYTHONPATH=examples/python:tests/intl
 
 # compared NAME LEAST WORD..: the words end well and find nothing wrong, in LEAST messages or files at least
 compared() {
   local name=$1 least=$2 said counted
   shift 2
-  said=$(timeout 1200 "$@" 2>&1)
+  said=$(timeout $((1200 * slower)) "$@" 2>&1)
   if [ $? != 0 ] || grep -q '^wrong' <<< "$said"; then
     failed "$name" "$(head -c 600 <<< "$said")"
     return
@@ -32,7 +29,7 @@ compared() {
   fi
 }
 
-compared "$name, each fault" 20 python3 -B tests/mo/revisions.py faults
+compared "$name, each fault" 20 "$python" -B tests/mo/revisions.py faults
 if ! getconf GNU_LIBC_VERSION > "$room/libc" 2>&1; then
   skipped "$name, beside glibc" 'the C library is another one'
   exit 0
@@ -43,7 +40,7 @@ fi
 if tests/lib/needs tools/gnu-msgfmt gettext; then
   GNU_MSGFMT=$(tools/gnu-msgfmt)
   export GNU_MSGFMT
-  compared "$name, generated" 1000 python3 -B tests/mo/revisions.py made 300
+  compared "$name, generated" 1000 "$python" -B tests/mo/revisions.py made 300
 else
   skipped "$name, generated" 'no GNU msgfmt, and it could not be installed'
 fi
@@ -59,7 +56,7 @@ for number, line in enumerate(sys.stdin):
     if number % every == 0 or head[4:8] != bytes(4):
         print(line, end="")' "${EVERY:-20}" < "$room/all" > "$room/files"
 if [ -s "$room/files" ]; then
-  compared "$name, installed" 1000 xargs -d '\n' -n 100 python3 -B tests/mo/revisions.py installed < "$room/files"
+  compared "$name, installed" 1000 xargs -d '\n' -n 100 "$python" -B tests/mo/revisions.py installed < "$room/files"
 else
   skipped "$name, installed" 'there are none'
 fi

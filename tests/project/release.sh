@@ -9,6 +9,7 @@
 # in tests/lib/emulated then: tests/machine/aarch64.sh calls it.
 no_program=1
 . "$(dirname "$0")/../lib/common"
+. tests/lib/c_common
 eval "$(tools/machine)"
 version=$(cat VERSION)
 name=kobdzila-$version-$machine-linux
@@ -24,13 +25,11 @@ says() { if [ "$2" = "$3" ]; then ok "$1"; else failed "$1" "'$3' and not '$2'";
 
 says 'version: kobdzila.h' "$version" "$(sed -n 's/^#define KOB_VERSION "\(.*\)"/\1/p' include/kobdzila.h)"
 says 'version: CHANGELOG.md' 1 "$(grep -c "^## \[$version\]" CHANGELOG.md)"
-if [ -n "$other" ]; then
-  skipped 'version: the library and the Python module' "this machine's python3 loads no library of another"
-elif [ -f build/lib/libkobdzila.so.0 ] && command -v python3 > /dev/null; then
-  says 'version: the library and the Python module' "$version" "$(LIBKOBDZILA=$PWD/build/lib/libkobdzila.so.0 \
-    PYTHONPATH=examples/python python3 -B -c 'import kobdzila_ctypes; print(kobdzila_ctypes.__version__)' 2>&1 | tail -n 1)"
-else
-  skipped 'version: the library and the Python module' 'no library was built, or there is no python3'
+if [ ! -f "$build/lib/libkobdzila.so.0" ]; then
+  skipped 'version: the library and the Python module' 'no library was built'
+elif has_python 'version: the library and the Python module'; then
+  says 'version: the library and the Python module' "$version" "$(LIBKOBDZILA=$PWD/$build/lib/libkobdzila.so.0 \
+    PYTHONPATH=examples/python "$python" -B -c 'import kobdzila_ctypes; print(kobdzila_ctypes.__version__)' 2>&1 | tail -n 1)"
 fi
 if [ -x "$bin/catsession" ]; then
   says 'version: catsession' "catsession (Kobdzila) $version" "$("$bin/catsession" --version 2>&1)"
