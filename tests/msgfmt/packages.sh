@@ -50,6 +50,8 @@ if [ -d "$room/po" ]; then compares "$room/po"; else skipped packages 'no packag
 
 driver=$PWD/bin/msgfmt-or-gnu
 top=$PWD
+# (what an emulator runs of a build is the driver alone: the packages are configured for this machine)
+[ -z "${EMULATED:-}" ] || PATH=${PATH#"$PWD/build/aarch64/tools:"}
 if [ ! -x "$driver" ]; then
   skipped 'packages, builds' 'there is no bin/msgfmt-or-gnu: tools/build_driver builds it if there is a C compiler'
   exit 0
