@@ -81,18 +81,29 @@ lines_of() {
 quick=(msgfmt/{rows,static} scripts/{stored,scripts,session} driver/or_gnu unfmt/unfmt library/c_{library,store})
 # (what can't run so, and why)
 declare -A left=(
-  [library/c_musl]='Debian has no musl-gcc for aarch64'
   [library/c_tsan]='ThreadSanitizer needs another layout of memory than the emulator has'
-  [msgfmt/answers]='its program, crates/test_answers, is built by the gate, for this machine'
-  [msgfmt/every_call]='its program, crates/test_every_call, is built by the gate, for this machine'
-  [scripts/serve]='its program, crates/test_every_call, is built by the gate, for this machine'
-  [scripts/store]='its program, crates/test_every_call, is built by the gate, for this machine'
-  [mo/installed]="this machine's python3 loads no library of another"
-  [mo/revisions]="this machine's python3 loads no library of another"
   [msgfmt/processor]='it is about x86-64-v2; what was built runs here on the first processor of aarch64'
 )
+# (which program of the gate a script runs)
+declare -A program_of=([msgfmt/answers]=test_answers [msgfmt/every_call]=test_every_call [scripts/serve]=test_every_call
+  [scripts/store]=test_every_call)
+export ANSWERS=$top/$build/tests/test_answers EVERY_CALL=$top/$build/tests/test_every_call
+
+# is_made CRATE: a program of the tests is proved and compiled for aarch64, over the libraries that the gate left
+is_made() {
+  local it=$build/tests/$1
+  mkdir -p "$build/tests"
+  [ -z "$(find "crates/$1/src" "$build/proved/libkobdzila_c.a" -newer "$it" 2>&1)" ] ||
+    { tools/over_gate "$1" "$it.o" && "$cc" -pie -Wl,-z,relro,-z,now -o "$it" "$it.o" "$build/static/machine.a" -lpthread; } > "$room/made" 2>&1
+}
+
 lines_of "${quick[@]}"
 if [ "${SCRIPTS:-}" = all ]; then
+  for it in test_answers test_every_call; do
+    is_made $it || for script in "${!program_of[@]}"; do
+      [ ${program_of[$script]} != $it ] || left[$script]="$it was not made over the libraries of the gate: $(tail -n 1 "$room/made")"
+    done
+  done
   for it in tests/{msgfmt,scripts,driver,unfmt,compile,intl,library,mo}/*.sh; do
     it=${it#tests/} it=${it%.sh}
     case " ${quick[*]} " in *" $it "*) continue ;; esac
