@@ -33,7 +33,7 @@ chmod -R a+rX "$room/messages" "$room/user"
 
 # asks PROGRAM LANGUAGE: what the program says, run by another user
 asks() {
-  env -i LC_ALL=C.UTF-8 LANGUAGE="$2" setpriv --reuid=65534 --regid=65534 --clear-groups \
+  env -i ${QEMU_LD_PREFIX:+QEMU_LD_PREFIX="$QEMU_LD_PREFIX"} LC_ALL=C.UTF-8 LANGUAGE="$2" setpriv --reuid=65534 --regid=65534 --clear-groups \
     "$room/$1" bind app "$room/messages" ask app a user 2>&1
 }
 
