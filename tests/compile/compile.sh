@@ -12,14 +12,15 @@ NAME=compile
 
 # catalogues: PO files of many languages: those of the repository, of Django, if it is there, and of installed catalogues
 catalogues() {
-  local it count=0
+  local it count=0 every=37
   mkdir -p bytes macros
   cp "$top"/examples/*.po bytes
   for it in /usr/lib/python3/dist-packages/django/contrib/auth/locale/*/LC_MESSAGES/django.po; do
     [ ! -f "$it" ] || cp "$it" "bytes/django-$(basename "${it%/LC_MESSAGES/django.po}").po"
   done
   command -v msgunfmt > /dev/null || return 0
-  for it in $(find /usr/share/locale -name '*.mo' -size -200k 2> /dev/null | sort | awk 'NR % 37 == 0'); do
+  [ "$slower" = 1 ] || every=$((every * 5))
+  for it in $(find /usr/share/locale -name '*.mo' -size -200k 2> /dev/null | sort | awk "NR % $every == 0"); do
     count=$((count + 1))
     msgunfmt -o "bytes/installed-$count.po" "$it" 2> msgunfmt || rm -f "bytes/installed-$count.po"
   done
