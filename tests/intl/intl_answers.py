@@ -64,6 +64,7 @@ class Comparing:
 
     def run(self, case: Case, library: bool, program: str | None = None) -> list[str]:
         known = {"LC_ALL": "C.UTF-8", "LOCPATH": str(self.room / "locales"), "PATH": os.environ["PATH"]}
+        known |= {name: os.environ[name] for name in ("QEMU_LD_PREFIX",) if name in os.environ}  # (an emulator's)
         known |= case.environment
         environment = {name: value for name, value in known.items() if value != "-"}
         if library:

@@ -9,7 +9,8 @@ name='the C library with musl'
 has_library "$name" || exit 0
 if [ -n "${EMULATED:-}" ]; then
   folder=$(tests/lib/emulated_system) || { skipped "$name" "$folder"; exit 0; }
-  script musl-gcc "exec cc \"\$@\" -specs '$folder/musl-gcc.specs'"
+  # (libgcc's choice between atomic steps asks the GNU C library)
+  script musl-gcc "exec cc \"\$@\" -mno-outline-atomics -specs '$folder/musl-gcc.specs'"
   export PATH=$room:$PATH QEMU_LD_PREFIX=$folder
 elif ! tests/lib/needs musl-gcc musl-tools; then
   skipped "$name" 'no musl-gcc, and it could not be installed'

@@ -27,10 +27,14 @@ SAME = "the same bytes"
 BOTH_REFUSE = "refused by both"
 
 
+# (QEMU_LD_PREFIX is an emulator's)
+ENVIRONMENT = {"LC_ALL": "C.UTF-8", **{name: os.environ[name] for name in ("QEMU_LD_PREFIX",) if name in os.environ}}
+
+
 def run(program, level, text):
     """What a program answers to a PO text: its status, the MO file, the error output."""
     words = [program, *filter(None, [level]), "--no-hash", "-o", "-", "-"]
-    done = subprocess.run(words, input=text, capture_output=True, env={"LC_ALL": "C.UTF-8"})
+    done = subprocess.run(words, input=text, capture_output=True, env=ENVIRONMENT)
     return done.returncode, done.stdout, done.stderr.decode(errors="replace").strip()
 
 
