@@ -16,6 +16,7 @@ import sys
 from concurrent.futures import ThreadPoolExecutor
 from pathlib import Path
 
+PATIENCE = 60 * int(os.environ.get("SLOWER", "1"))  # seconds
 ENTRIES = 150  # of a generated file
 OTHER = "other-"  # a generated file of other languages than Python is called so
 HEADER = (
@@ -121,7 +122,7 @@ def generated(seed: int, has_plurals: bool, is_python: bool) -> bytes:
 def answer(program: str, option: str, path: Path, environment: dict[str, str]) -> tuple[int, bytes]:
     """The status of a run, and its error output."""
     command = [program, option, "-o", "/dev/null", str(path)]
-    run = subprocess.run(command, env=environment, capture_output=True, check=False, timeout=60)
+    run = subprocess.run(command, env=environment, capture_output=True, check=False, timeout=PATIENCE)
     return run.returncode, run.stderr
 
 

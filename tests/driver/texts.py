@@ -14,6 +14,7 @@ import sys
 from concurrent.futures import ThreadPoolExecutor
 from pathlib import Path
 
+PATIENCE = 60 * int(os.environ.get("SLOWER", "1"))  # seconds
 FIELDS = (
     "Project-Id-Version: x\\nPO-Revision-Date: x\\nLast-Translator: x\\nLanguage-Team: x\\nLanguage: fr\\n"
     "MIME-Version: 1.0\\nContent-Type: text/plain; charset=UTF-8\\nContent-Transfer-Encoding: 8bit\\n"
@@ -112,7 +113,7 @@ class Runner:
         made.unlink(missing_ok=True)
         command = [self.programs[program], *self.words, "--no-hash", "-o", "x.mo", "in.po"]
         environment = {**os.environ, "LC_ALL": "C", "MSGFMT_OR_GNU_LOG": str(folder / "log")}
-        run = subprocess.run(command, cwd=folder, env=environment, capture_output=True, check=False, timeout=60)
+        run = subprocess.run(command, cwd=folder, env=environment, capture_output=True, check=False, timeout=PATIENCE)
         return run.returncode, run.stderr, made.read_bytes() if made.exists() else None
 
     def compare(self, seed: int) -> tuple[str, str]:

@@ -22,6 +22,7 @@ from pathlib import Path
 Entries = dict[bytes, bytes]
 UTF8 = b"Content-Type: text/plain; charset=UTF-8\nPlural-Forms: nplurals=2; plural=n>1;\n"
 SPELLINGS = ("UTF-8", "utf8", "UTF8", "utf-8", "Utf_8")
+PATIENCE = 60 * int(os.environ.get("SLOWER", "1"))  # seconds
 
 
 def mo(entries: Entries, header: bytes | None = UTF8, order: str = "<", revision: int = 0) -> bytes:
@@ -71,7 +72,8 @@ class Comparing:
             environment["LD_PRELOAD"] = self.library
         # (locales of its own the program never frees)
         environment["ASAN_OPTIONS"] = "detect_leaks=0"
-        done = subprocess.run([program or self.ask, *case.words], env=environment, capture_output=True, cwd=self.room, timeout=60)
+        done = subprocess.run([program or self.ask, *case.words], env=environment, capture_output=True, cwd=self.room,
+                              timeout=PATIENCE)
         said = done.stdout.decode() + done.stderr.decode()
         return [*said.splitlines(), f"status {done.returncode}"]
 

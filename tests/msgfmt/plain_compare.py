@@ -4,6 +4,7 @@ status, the bytes on standard output and the line on the error output must be th
 
     tests/msgfmt/plain_compare.py PROGRAM
 """
+import os
 import subprocess
 import sys
 from collections import Counter
@@ -12,6 +13,7 @@ from concurrent.futures import ThreadPoolExecutor
 import plain
 import plain_texts
 
+PATIENCE = 60 * int(os.environ.get("SLOWER", "1"))  # seconds
 RANDOM_TEXTS = 8000
 FEWEST = 50  # of the random texts that end in each way
 WAYS = (
@@ -29,7 +31,7 @@ WAYS = (
 
 def answer_of_program(text, words):
     line = [sys.argv[1], *words, "-o", "-", "-"]
-    run = subprocess.run(line, input=text, capture_output=True, timeout=60, check=False)
+    run = subprocess.run(line, input=text, capture_output=True, timeout=PATIENCE, check=False)
     return run.returncode, run.stdout, run.stderr
 
 
