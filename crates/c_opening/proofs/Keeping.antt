@@ -13,7 +13,7 @@ use Rattle.any_charset.specs.declared.fault.TextFault.TheVariants.{Load}
 use Rattle.po_checks.specs.Refusal.{out_of_memory}
 use Rattle.po_checks.specs.declared.options.Options.{Options}
 use Rattle.c_answers.specs.declared.opened.Opened.{Opened}
-use Rattle.c_opening.specs.Opening.{IsOpenedAs, IsOpenedMap, IsOpenedMo, IsOpenedText, MeansMap, MeansMo}
+use Rattle.c_opening.specs.Opening.{IsOpenedAs, IsOpenedMap, IsOpenedMo, IsOpenedPo, MeansMap, MeansMo}
 use Rattle.c_opening.specs.Opening.{MeansText, RefusesMo, RefusesText, no_stats, own_file}
 use Rattle.c_opening.specs.Opening.{IsOpenedFile, IsRefused, IsTold, MeansFile}
 use Rattle.c_answers.specs.Numbers.{memory_fault}
@@ -66,7 +66,7 @@ told text options false c refused = inl ((λ e. absurd (cc e)), refused)
 
 pub kept_po : (text : List ℕ) (options : Options) (is_strict : Bool) (compiled : Compiled) (c : Opened)
     → MeansText text options is_strict compiled → IsOpenedMap compiled.catalogue compiled.stats None c
-    → IsOpenedText text options is_strict c
+    → IsOpenedPo text options is_strict c
 kept_po text options is_strict compiled c so (inl h) =
     inl (held (MeansMap text options is_strict) compiled.catalogue compiled.stats None c
     (record { compiled = compiled; means = so; map_is = refl; stats_are = refl; no_file = refl }) h)

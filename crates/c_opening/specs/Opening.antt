@@ -1,6 +1,6 @@
 -- What C holds after opening bytes: their catalogue, or the number of the fault and its line.
 use Rattle.std.specs.Prelude.{◌≡◌, ◌⊎◌, ℕ, ◌+◌, ◌==◌, if◌then◌else◌, nat_lt, Bool, true, false, List, MatchOption}
-use Rattle.std.specs.Prelude.{Option, None, Some, option_map, not, ◌&&◌}
+use Rattle.std.specs.Prelude.{Option, None, Some, option_map}
 use Rattle.std.specs.Arc.{arc_value}
 use Rattle.mo_image.specs.Entry.{Entry}
 use Rattle.mo_file.specs.MoReading.{Mo, Refused, rank as mo_number}
@@ -26,7 +26,6 @@ use Rattle.po_checks.specs.declared.options.Options.{Options}
 use Rattle.c_answers.specs.declared.opened.Opened.{Opened}
 use Rattle.c_answers.specs.Numbers.{no_fault, memory_fault, tables_fault, mo_no_character_fault, po_faults}
 use Rattle.c_answers.specs.Numbers.{no_character_fault, not_read_back_fault}
-use Rattle.dependent_files.specs.DigitsFlag.{may_have_flag}
 use Rattle.dependent_files.specs.TextFiles.{HasFileAny, HasNoFileAny}
 use Rattle.dependent_files.specs.declared.compiler.DependentFile.{DependentFile}
 use Rattle.dependent_files.specs.declared.fault.FileFault.{FileFault}
@@ -185,15 +184,6 @@ IsTold text options false fault c = (¬ IsSystemDependent fault × IsRefused c (
     ⊎ (IsSystemDependent fault × IsOpenedFile text options c)
 
 -- the map that a PO text compiles to, or what becomes of its first fault, or out of memory
-abbrev pub IsOpenedText : List ℕ → Options → Bool → Opened → Type 0
-IsOpenedText text options is_strict c = IsOpenedAs (MeansMap text options is_strict) c
-    ⊎ (fault : TextFault) × RefusesText text options is_strict fault × IsTold text options is_strict fault c
-
--- a text that may have the flag `I` is opened with its macros and its flags
-abbrev pub IsOpenedIf : Bool → List ℕ → Options → Bool → Opened → Type 0
-IsOpenedIf true text options is_strict c = IsOpenedFile text options c
-IsOpenedIf false text options is_strict c = IsOpenedText text options is_strict c
-
--- what a PO text is opened as; if is_strict, the flag `I` is a byte like others
 abbrev pub IsOpenedPo : List ℕ → Options → Bool → Opened → Type 0
-IsOpenedPo text options is_strict c = IsOpenedIf (not is_strict && may_have_flag text) text options is_strict c
+IsOpenedPo text options is_strict c = IsOpenedAs (MeansMap text options is_strict) c
+    ⊎ (fault : TextFault) × RefusesText text options is_strict fault × IsTold text options is_strict fault c

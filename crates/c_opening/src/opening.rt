@@ -4,7 +4,6 @@ ghost use Rattle.std.specs.Arc.{arc_value};
 ghost use Rattle.catalogue.specs.Meaning.{Means, Refuses};
 ghost use Rattle.po_checks.specs.Refusal.{out_of_memory};
 ghost use Rattle.c_opening.specs.Opening.{IsOpenedMo, IsOpenedPo, IsOpenedMap, IsRefused, fault_number, no_stats};
-ghost use Rattle.c_opening.specs.Opening.{IsOpenedText};
 ghost use Rattle.c_opening.specs.Opening.{MeansText, RefusesText, line_of, options_of, text_fault_number};
 ghost use Rattle.c_opening.specs.Opening.{MeansMo, RefusesMo, dependent_number, file_fault_number, mo_fault_number};
 ghost use Rattle.c_opening.specs.Opening.{IsOpenedFile, IsSystemDependent, IsTold, file_line, text_file_number};
@@ -18,7 +17,7 @@ use c_answers::numbers::{
     NO_FAULT, NOT_READ_BACK, PO_FAULTS, PO_MEMORY,
 };
 use catalogue::{Catalogue, Compiled, LoadFault, LoadKind, Options, Stats, compile_owned};
-use dependent_files::{DependentFile, FileFault, compile_file, may_have_flag};
+use dependent_files::{DependentFile, FileFault, compile_file};
 use live_loads::{mo_number, po_number};
 use mo_charsets::{RecodedFault, read_any_charset};
 use mo_file::{MoFault, read_mo};
@@ -274,28 +273,6 @@ fn open_refused(
     refused_text(fault)
 }
 
-/// What is opened of a text, with its macros unless `is_strict`.
-fn open_text(
-    alloc: Global,
-    bytes: &[u8],
-    options: Options,
-    is_strict: bool,
-    without_index: bool,
-) -> Opened
-    ensures { IsOpenedText bytes.now options is_strict result }
-{
-    match compile_text(alloc, bytes, options, is_strict) {
-        Ok(compiled) => kept(
-            alloc,
-            compiled.catalogue,
-            compiled.stats,
-            None,
-            without_index,
-        ),
-        Err(fault) => open_refused(alloc, bytes, options, is_strict, without_index, fault),
-    }
-}
-
 /// The options that two numbers give: each is on if its number isn't 0.
 pub fn options_of(checked: u32, use_fuzzy: u32) -> Options
     ensures { result ≡ options_of checked use_fuzzy }
@@ -308,8 +285,7 @@ pub fn options_of(checked: u32, use_fuzzy: u32) -> Options
 
 /// The catalogue of a PO text, or the first reason why it is refused. An option is on if its number isn't 0; with
 /// `without_index` the catalogue gets no index, and answers as with one. Unless `strict` is on, a text whose formats
-/// name macros is opened, too: its messages are as x86-64 Linux has them, and its MO file is of revision 0.1 or 1.1. So
-/// is the file of a text whose translations have the flag `I`.
+/// name macros is opened, too: its messages are as x86-64 Linux has them, and its MO file is of revision 0.1 or 1.1.
 pub fn open_po(
     alloc: Global,
     bytes: &[u8],
@@ -321,9 +297,14 @@ pub fn open_po(
     ensures { IsOpenedPo bytes.now (options_of checked use_fuzzy) (nat_lt 0 strict) result }
 {
     let options = options_of(checked, use_fuzzy);
-    let is_strict = strict > 0;
-    if !is_strict && may_have_flag(bytes) {
-        return open_macros(alloc, bytes, options, without_index > 0);
+    match compile_text(alloc, bytes, options, strict > 0) {
+        Ok(compiled) => kept(
+            alloc,
+            compiled.catalogue,
+            compiled.stats,
+            None,
+            without_index > 0,
+        ),
+        Err(fault) => open_refused(alloc, bytes, options, strict > 0, without_index > 0, fault),
     }
-    open_text(alloc, bytes, options, is_strict, without_index > 0)
 }

@@ -3,4 +3,3 @@ mod Gathering
 mod Files
 mod Foreign
 mod Faults
-mod Flags

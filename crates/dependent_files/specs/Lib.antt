@@ -2,4 +2,3 @@ pub mod MessagesHere
 pub mod MessagesFile
 pub mod TextFiles
 pub mod FileFaults
-pub mod DigitsFlag
