@@ -98,14 +98,6 @@ bool ends_with_newline(struct part string) {
     return byte == '\n';
 }
 
-bool has_digits_flag(struct part text) {
-    for (const char *at = text.at; at && at < text.end && (at = memchr(at, '%', (size_t)(text.end - at)));)
-        for (at++; at < text.end && *at && strchr("0123456789$-+ #'I\"\t\n\r", *at); at++)
-            if (*at == 'I')
-                return true;
-    return false;
-}
-
 bool names_macro(struct part text) {
     for (const char *at = text.at; at && at < text.end && (at = memchr(at, '%', (size_t)(text.end - at)));) {
         for (at++; at < text.end && *at && strchr("0123456789$-+ #'I*.", *at);)

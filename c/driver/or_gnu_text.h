@@ -59,8 +59,6 @@ int next_byte(struct spelled *strings);
 bool skip_behind(struct spelled *strings, const char *word);
 /* Whether a text has a directive with a macro, such as `%08<PRIx64>`, as far as that isn't cut into several strings. */
 bool names_macro(struct part text);
-/* Whether the strings of a keyword may have a directive with the flag `I`, as libkobdzila sees it. */
-bool has_digits_flag(struct part text);
 /* Whether the string between two quotes begins or ends with a newline. */
 bool begins_with_newline(struct part string);
 bool ends_with_newline(struct part string);

@@ -28,11 +28,6 @@ catalogues() {
   for it in bytes/*.po; do
     "$program" -o none.mo "$it" 2> said || ! grep -q ': system-dependent format$' said || mv "$it" macros
   done
-  # (so are those with the flag I, of which libkobdzila writes a file of another revision)
-  for it in bytes/*.po; do
-    run --no-gnu --force -q "$it"
-    [ ! -f "${it%.po}.mo" ] || ! od -An -tu1 -j4 -N1 "${it%.po}.mo" | grep -q 1 || mv "$it" macros
-  done
   for it in macros/*.po; do
     [ -f "$it" ] && grep -q 'charset=UTF-8' "$it" && sed -i '/^"POT-Creation-Date:/d' "$it" || rm -f "$it"
   done

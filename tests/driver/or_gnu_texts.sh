@@ -93,9 +93,6 @@ answers 'no macro but its letters' ours "$c"'msgid "<PRId64>"\nmsgstr "a <PRId64
 answers 'a macro and an undefined size' 'GNU\t0\tsystem-dependent format' "$c"'msgid "%%Zu %%<PRId64>"\nmsgstr "%%Zu %%<PRId64>"\n'
 answers 'a macro without the flag, and one with it' ours "$macro$c"'msgid "%%<PRIu8>"\nmsgstr "%%<PRIu8>"\n'
 answers 'the flag I and a macro' ours "$c"'msgid "%%<PRId64> %%d"\nmsgstr "%%I<PRId64> %%-I5d"\n' -c
-answers 'the flag I alone' ours "$c"'msgid "%%d %%s"\nmsgstr "%%2$s %%1$Id"\n' -c
-answers 'the flag I in the next string' ours "$c"'msgid "%%d"\nmsgstr "%%-"\n"I5d"\n'
-answers 'the flag I of no format' ours 'msgid "%%d"\nmsgstr "%%Id"\n'
 answers 'a macro, two lines of flags' "$other" "$c"'#, no-wrap\n'"$macro"
 answers 'a macro in another charset' ours "$c"'msgid "%%<PRId64>"\nmsgstr "\303\251 %%<PRId64>"\n'
 answers 'a macro, a header without fields' ours "$c$macro" -c -v
