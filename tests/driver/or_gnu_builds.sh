@@ -12,8 +12,8 @@ notes_calls "$driver"
 
 # german: a German PO file next to the French one, in another charset
 german() {
-  sed -e 's/^"Language: fr/"Language: de/' -e 's/UTF-8/EUC-TW/' -e 's/^msgstr "salut"/msgstr "gr\xa4\xa2e"/' \
-    -e 's/^msgstr "Salut"/msgstr "Gr\xa4\xa2e"/' po/fr.po > po/de.po
+  sed -e 's/^"Language: fr/"Language: de/' -e 's/UTF-8/EUC-TW/' -e 's/^msgstr "salut"/msgstr "gr\xc4\xe3e"/' \
+    -e 's/^msgstr "Salut"/msgstr "Gr\xc4\xe3e"/' po/fr.po > po/de.po
 }
 
 # hash_size MO: the size of its hash table, which GNU msgfmt's file has, and ours not
@@ -58,7 +58,7 @@ if has_meson; then
   built 'driver, Meson' build/po/fr/LC_MESSAGES/hello.mo build/po/de/LC_MESSAGES/hello.mo
   name='driver, Meson: its version is asked, and a desktop entry merged'
   if ! grep -qx -e --version "$room/called"; then failed "$name" 'it was not asked for its version'
-  elif ! grep -qx 'Name\[fr\]=Salut' build/hello.desktop || ! grep -qx 'Name\[de\]=Grあe' build/hello.desktop; then
+  elif ! grep -qx 'Name\[fr\]=Salut' build/hello.desktop || ! grep -qx 'Name\[de\]=Gr中e' build/hello.desktop; then
     failed "$name" "$(cat build/hello.desktop log | tail -c 400)"
   else ok "$name"; fi
   PATH=${PATH#*:}
