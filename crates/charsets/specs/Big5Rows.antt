@@ -1,9 +1,9 @@
--- The characters of two bytes in BIG5, from the second byte 40 on: a row for each first byte.
+-- The characters of two bytes in BIG5, from the second byte 0x40 on: a row for each first byte.
 
 -- Written by tools/make_charsets.
 use Rattle.std.specs.Prelude.{ℕ, List, [], ◌∷◌, ◌++◌, replicate, codes}
 
--- from the first byte A1 on
+-- from the first byte 0xA1 on
 unfoldable pub big5_a1 : List (List ℕ)
 big5_a1 =
     (codes "\u{3000}，、。．‧；：？！︰…‥﹐﹑﹒·﹔﹕﹖﹗｜–︱—︳╴︴﹏（）︵︶｛｝︷︸〔〕︹︺【】︻︼《》︽︾〈〉︿﹀「」﹁﹂『』﹃﹄﹙﹚"
@@ -148,7 +148,7 @@ big5_a1 =
     ++ codes "\u{f7a6}\u{f7a7}\u{f7a8}\u{f7a9}\u{f7aa}\u{f7ab}") ∷
     []
 
--- from the first byte C8 on
+-- from the first byte 0xC8 on
 unfoldable pub big5_c8 : List (List ℕ)
 big5_c8 =
     (codes "\u{f7ac}\u{f7ad}\u{f7ae}\u{f7af}\u{f7b0}\u{f7b1}\u{f7b2}\u{f7b3}\u{f7b4}\u{f7b5}\u{f7b6}"
@@ -280,7 +280,7 @@ big5_c8 =
     ++ codes "瞴瞱瞨矰磳磽礂磻磼磲礅磹磾礄禫禨穜穛穖穘穔穚窾竀竁簅簏篲簀篿篻簎篴簋篳簂簉簃簁篸篽簆篰篱簐簊糨縭縼繂縳顈縸縪繉繀繇縩繌縰縻縶繄縺罅罿罾罽翴翲耬膻臄臌臊臅臇膼臩艛艚艜薃薀薏薧薕薠薋薣蕻薤薚薞") ∷
     []
 
--- from the first byte EE on
+-- from the first byte 0xEE on
 unfoldable pub big5_ee : List (List ℕ)
 big5_ee =
     (codes "蕷蕼薉薡蕺蕸蕗薎薖薆薍薙薝薁薢薂薈薅蕹蕶薘薐薟虨螾螪螭蟅螰螬螹螵螼螮蟉蟃蟂蟌螷螯蟄蟊螴螶螿螸螽蟞螲褵褳褼褾襁襒褷襂覭覯覮觲觳謞"

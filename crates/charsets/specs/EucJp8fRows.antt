@@ -1,9 +1,9 @@
--- The characters of two bytes in EUC-JP behind the byte 8F, from the second byte A1 on: a row for each first byte.
+-- The characters of two bytes in EUC-JP behind the byte 8F, from the second byte 0xA1 on: a row for each first byte.
 
 -- Written by tools/make_charsets.
 use Rattle.std.specs.Prelude.{ℕ, List, [], ◌∷◌, ◌++◌, replicate, codes}
 
--- from the first byte A2 on
+-- from the first byte 0xA2 on
 unfoldable pub euc_jp_8f_a2 : List (List ℕ)
 euc_jp_8f_a2 =
     (replicate 14 0

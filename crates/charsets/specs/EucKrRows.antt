@@ -1,9 +1,9 @@
--- The characters of two bytes in EUC-KR, from the second byte A1 on: a row for each first byte.
+-- The characters of two bytes in EUC-KR, from the second byte 0xA1 on: a row for each first byte.
 
 -- Written by tools/make_charsets.
 use Rattle.std.specs.Prelude.{ℕ, List, [], ◌∷◌, ◌++◌, replicate, codes}
 
--- from the first byte A1 on
+-- from the first byte 0xA1 on
 unfoldable pub euc_kr_a1 : List (List ℕ)
 euc_kr_a1 =
     (codes "\u{3000}、。·‥…¨〃\u{ad}―∥＼∼‘’“”〔〕〈〉《》「」『』【】±×÷≠≤≥∞∴°′″℃Å￠￡￥♂♀∠⊥⌒∂∇≡≒§※☆★○●◎◇◆□■△▲▽▼→←↑↓↔〓≪≫√∽∝"
@@ -88,7 +88,7 @@ euc_kr_a1 =
     codes "窈窯繇繞耀腰蓼蟯要謠遙遼邀饒慾欲浴縟褥辱俑傭冗勇埇墉容庸慂榕涌湧溶熔瑢用甬聳茸蓉踊鎔鏞龍于佑偶優又友右宇寓尤愚憂旴牛玗瑀盂祐禑禹紆羽芋藕虞迂遇郵釪隅雨雩勖彧旭昱栯煜稶郁頊云暈橒殞澐熉耘芸蕓" ∷
     []
 
--- from the first byte EA on
+-- from the first byte 0xEA on
 unfoldable pub euc_kr_ea : List (List ℕ)
 euc_kr_ea =
     codes "運隕雲韻蔚鬱亐熊雄元原員圓園垣媛嫄寃怨愿援沅洹湲源爰猿瑗苑袁轅遠阮院願鴛月越鉞位偉僞危圍委威尉慰暐渭爲瑋緯胃萎葦蔿蝟衛褘謂違韋魏乳侑儒兪劉唯喩孺宥幼幽庾悠惟愈愉揄攸有杻柔柚柳楡楢油洧流游溜" ∷

@@ -1,9 +1,9 @@
--- The characters of two bytes in GB2312, from the second byte A1 on: a row for each first byte.
+-- The characters of two bytes in GB2312, from the second byte 0xA1 on: a row for each first byte.
 
 -- Written by tools/make_charsets.
 use Rattle.std.specs.Prelude.{ℕ, List, [], ◌∷◌, ◌++◌, replicate, codes}
 
--- from the first byte A1 on
+-- from the first byte 0xA1 on
 unfoldable pub gb2312_a1 : List (List ℕ)
 gb2312_a1 =
     (codes "\u{3000}、。・ˉˇ¨〃々―～‖…‘’“”〔〕〈〉《》「」『』〖〗【】±×÷∶∧∨∑∏∪∩∈∷√⊥∥∠⌒⊙∫∮≡≌≈∽∝≠≮≯≤≥∞∵∴♂♀°′″℃＄¤￠￡‰§№☆★○●◎◇◆□■△"
@@ -91,7 +91,7 @@ gb2312_a1 =
     codes "搿擘耄毪毳毽毵毹氅氇氆氍氕氘氙氚氡氩氤氪氲攵敕敫牍牒牖爰虢刖肟肜肓肼朊肽肱肫肭肴肷胧胨胩胪胛胂胄胙胍胗朐胝胫胱胴胭脍脎胲胼朕脒豚脶脞脬脘脲腈腌腓腴腙腚腱腠腩腼腽腭腧塍媵膈膂膑滕膣膪臌朦臊膻" ∷
     []
 
--- from the first byte EC on
+-- from the first byte 0xEC on
 unfoldable pub gb2312_ec : List (List ℕ)
 gb2312_ec =
     codes "臁膦欤欷欹歃歆歙飑飒飓飕飙飚殳彀毂觳斐齑斓於旆旄旃旌旎旒旖炀炜炖炝炻烀炷炫炱烨烊焐焓焖焯焱煳煜煨煅煲煊煸煺熘熳熵熨熠燠燔燧燹爝爨灬焘煦熹戾戽扃扈扉礻祀祆祉祛祜祓祚祢祗祠祯祧祺禅禊禚禧禳忑忐" ∷

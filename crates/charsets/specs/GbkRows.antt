@@ -1,9 +1,9 @@
--- The characters of two bytes in GBK, from the second byte 40 on: a row for each first byte.
+-- The characters of two bytes in GBK, from the second byte 0x40 on: a row for each first byte.
 
 -- Written by tools/make_charsets.
 use Rattle.std.specs.Prelude.{ℕ, List, [], ◌∷◌, ◌++◌, replicate, codes}
 
--- from the first byte 81 on
+-- from the first byte 0x81 on
 unfoldable pub gbk_81 : List (List ℕ)
 gbk_81 =
     (codes "丂丄丅丆丏丒丗丟丠両丣並丩丮丯丱丳丵丷丼乀乁乂乄乆乊乑乕乗乚乛乢乣乤乥乧乨乪乫乬乭乮乯乲乴乵乶乷乸乹乺乻乼乽乿亀亁亂亃亄亅亇亊\0亐亖亗亙亜亝亞亣亪亯亰亱亴亶亷亸亹亼亽亾仈仌仏仐仒仚仛仜仠"
@@ -124,7 +124,7 @@ gbk_81 =
     ++ codes "абвгдеёжзийклмнопрстуфхцчшщъыьэюя") ∷
     []
 
--- from the first byte A8 on
+-- from the first byte 0xA8 on
 unfoldable pub gbk_a8 : List (List ℕ)
 gbk_a8 =
     (codes "ˊˋ˙–―‥‵℅℉↖↗↘↙∕∟∣≒≦≧⊿═║╒╓╔╕╖╗╘╙╚╛╜╝╞╟╠╡╢╣╤╥╦╧╨╩╪╫╬╭╮╯╰╱╲╳▁▂▃▄▅▆▇\0█▉▊▋▌▍▎▏▓▔▕▼▽◢◣◤◥☉⊕〒〝〞"
@@ -248,7 +248,7 @@ gbk_a8 =
     ++ codes "宣悬旋玄") ∷
     []
 
--- from the first byte D1 on
+-- from the first byte 0xD1 on
 unfoldable pub gbk_d1 : List (List ℕ)
 gbk_d1 =
     (codes "袬袮袯袰袲袳袴袵袶袸袹袺袻袽袾袿裀裃裄裇裈裊裋裌裍裏裐裑裓裖裗裚裛補裝裞裠裡裦裧裩裪裫裬裭裮裯裲裵裶裷裺裻製裿褀褁褃褄褅褆複褈\0褉褋褌褍褎褏褑褔褕褖褗褘褜褝褞褟褠褢褣褤褦褧褨褩褬褭褮褯褱"
@@ -366,7 +366,7 @@ gbk_d1 =
     ++ codes "鳆鳇鳊鳋") ∷
     []
 
--- from the first byte F7 on
+-- from the first byte 0xF7 on
 unfoldable pub gbk_f7 : List (List ℕ)
 gbk_f7 =
     (codes "鰼鰽鰾鰿鱀鱁鱂鱃鱄鱅鱆鱇鱈鱉鱊鱋鱌鱍鱎鱏鱐鱑鱒鱓鱔鱕鱖鱗鱘鱙鱚鱛鱜鱝鱞鱟鱠鱡鱢鱣鱤鱥鱦鱧鱨鱩鱪鱫鱬鱭鱮鱯鱰鱱鱲鱳鱴鱵鱶鱷鱸鱹鱺\0鱻鱽鱾鲀鲃鲄鲉鲊鲌鲏鲓鲖鲗鲘鲙鲝鲪鲬鲯鲹鲾鲿鳀鳁鳂鳈鳉鳑鳒"

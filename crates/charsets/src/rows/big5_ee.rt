@@ -1,4 +1,4 @@
-//! Characters of two bytes in BIG5, from the first byte EE on.
+//! Characters of two bytes in BIG5, from the first byte 0xEE on.
 //! Written by tools/make_charsets.
 ghost use Rattle.std.specs.Prelude.{◌≡◌, map};
 ghost use Rattle.charsets.specs.Big5Rows.{big5_ee};

@@ -1,4 +1,4 @@
-//! Characters of two bytes in EUC-JP, from the first byte 8E on.
+//! Characters of two bytes in EUC-JP, from the first byte 0x8E on.
 //! Written by tools/make_charsets.
 ghost use Rattle.std.specs.Prelude.{◌≡◌, map};
 ghost use Rattle.charsets.specs.EucJpRows.{euc_jp_8e};

@@ -1,4 +1,4 @@
-//! Characters of two bytes in EUC-JP behind the byte 8F, from the first byte A2 on.
+//! Characters of two bytes in EUC-JP behind the byte 8F, from the first byte 0xA2 on.
 //! Written by tools/make_charsets.
 ghost use Rattle.std.specs.Prelude.{◌≡◌, map};
 ghost use Rattle.charsets.specs.EucJp8fRows.{euc_jp_8f_a2};

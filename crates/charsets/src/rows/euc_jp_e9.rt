@@ -1,4 +1,4 @@
-//! Characters of two bytes in EUC-JP, from the first byte E9 on.
+//! Characters of two bytes in EUC-JP, from the first byte 0xE9 on.
 //! Written by tools/make_charsets.
 ghost use Rattle.std.specs.Prelude.{◌≡◌, map};
 ghost use Rattle.charsets.specs.EucJpRows.{euc_jp_e9};

@@ -1,4 +1,4 @@
-//! Characters of two bytes in EUC-KR, from the first byte EA on.
+//! Characters of two bytes in EUC-KR, from the first byte 0xEA on.
 //! Written by tools/make_charsets.
 ghost use Rattle.std.specs.Prelude.{◌≡◌, map};
 ghost use Rattle.charsets.specs.EucKrRows.{euc_kr_ea};

@@ -1,4 +1,4 @@
-//! Characters of two bytes in GB2312, from the first byte A1 on.
+//! Characters of two bytes in GB2312, from the first byte 0xA1 on.
 //! Written by tools/make_charsets.
 ghost use Rattle.std.specs.Prelude.{◌≡◌, map};
 ghost use Rattle.charsets.specs.Gb2312Rows.{gb2312_a1};

@@ -1,4 +1,4 @@
-//! Characters of two bytes in GB2312, from the first byte EC on.
+//! Characters of two bytes in GB2312, from the first byte 0xEC on.
 //! Written by tools/make_charsets.
 ghost use Rattle.std.specs.Prelude.{◌≡◌, map};
 ghost use Rattle.charsets.specs.Gb2312Rows.{gb2312_ec};

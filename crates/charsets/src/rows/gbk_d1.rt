@@ -1,4 +1,4 @@
-//! Characters of two bytes in GBK, from the first byte D1 on.
+//! Characters of two bytes in GBK, from the first byte 0xD1 on.
 //! Written by tools/make_charsets.
 ghost use Rattle.std.specs.Prelude.{◌≡◌, map};
 ghost use Rattle.charsets.specs.GbkRows.{gbk_d1};
