@@ -1,12 +1,10 @@
-//! Public-API tests of the crates of formats.
+//! Public-API tests of the crates of formats, one module a language.
 //!
 //! They are a crate of their own because a crate with tests is proved twice, with them and without.
 #![tactic(auto)]
 
 #[cfg(test)]
 mod brace;
-#[cfg(test)]
-mod checks;
 #[cfg(test)]
 mod csharp;
 #[cfg(test)]
@@ -17,6 +15,7 @@ mod java_printf;
 mod kuit;
 #[cfg(test)]
 mod librep;
+#[cfg(test)]
 mod macros;
 #[cfg(test)]
 mod named;
@@ -28,5 +27,3 @@ mod php;
 mod python;
 #[cfg(test)]
 mod scripts;
-#[cfg(test)]
-mod texts;
