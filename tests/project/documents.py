@@ -297,7 +297,7 @@ def fields_of_a_header():
 
 def options_of_the_code():
     """The options: their long names with their letters, and help's."""
-    source = read("crates/msgfmt_tool/src/words.rt")
+    source = read("crates/msgfmt_words/src/words.rt")
     found = {name: letter for name, letter in re.findall(r'letter_flag\(\s*alloc,\s*"([\w-]+)",\s*\'(\w)\'', source)}
     found |= {name: "" for name in re.findall(r'(?<!letter_)flag\(\s*alloc,\s*"([\w-]+)"', source)}
     found |= {name: letter for letter, name in re.findall(r"\.short\('(\w)'\)\s*\.long\(\"([\w-]+)\"\)", source)}

@@ -47,8 +47,8 @@ crates/po_text/src/fault.rt^#[error("bad escape")]^#[error("escape")]
 crates/mo_file/src/fault.rt^    NoNul,^    NotClosed,
 crates/script_text/src/fault.rt^#[error("no thread")]^#[error("no threads")]
 crates/msgfmt_tool/src/texts.rt^no input file given^no INPUT
-crates/msgfmt_tool/src/words.rt^.long("output-file")^.long("output")
-crates/msgfmt_tool/src/words.rt^"use-fuzzy", 'f'^"use-fuzzy", 'z'
+crates/msgfmt_words/src/words.rt^.long("output-file")^.long("output")
+crates/msgfmt_words/src/words.rt^"use-fuzzy", 'f'^"use-fuzzy", 'z'
 crates/msgfmt_tool/src/steps.rt^warning: header field^warning: field
 crates/po_header/src/fields.rt^"MIME-Version"^"Mime-Version"
 crates/po_text/src/open.rt^67_108_864^67_108_865

@@ -1,5 +1,3 @@
-pub mod OneFault
 pub mod RunLemmas
-pub mod WordLemmas
 pub mod OneStatus
 pub mod SomeRun

@@ -6,7 +6,7 @@ use Rattle.clap.specs.declared.error.kind.ErrorKind.{ErrorKind}
 use Rattle.catalogue.specs.Meaning.{Means, Refuses}
 use Rattle.catalogue.specs.declared.LoadFault.{LoadFault}
 use Rattle.catalogue.proofs.OneMeaning.{meaning_one, means_or_refuses, refusal_one}
-use Rattle.msgfmt_tool.specs.Words.{AreFaulty, AreTaken, AskForHelp, Asked, asked}
+use Rattle.msgfmt_words.specs.Words.{AreFaulty, AreTaken, AskForHelp, Asked, asked}
 use Rattle.devices.specs.Devices.{IsFront, InputSeen}
 use Rattle.msgfmt_tool.specs.Runs.{FilesSeen, IsRefused, MakesFile, Reads, Run, Runs, is_standard, most_read}
 use Rattle.msgfmt_tool.specs.Laws.{BeginAlike, IsSettled}

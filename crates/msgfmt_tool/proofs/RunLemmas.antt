@@ -5,7 +5,7 @@ use Rattle.devices.specs.Devices.{RisesBy, InputSeen, OutputSeen}
 use Rattle.devices.specs.Files.{KeepsLog, Log, Logs, MayLog}
 use Rattle.catalogue.specs.MoFile.{spelling}
 use Rattle.catalogue.specs.declared.Compiled.{Compiled}
-use Rattle.msgfmt_tool.specs.Words.{AreTaken, Asked, asked}
+use Rattle.msgfmt_words.specs.Words.{AreTaken, Asked, asked}
 use Rattle.msgfmt_tool.specs.Runs.{Change, Compiles, Fails, FailsToWarn, FailsToWrite, FilesSeen}
 use Rattle.msgfmt_tool.specs.Runs.{IsUnwritable, IsUnwritten, MakesFile, MakesFileFirst, Run, Runs, Writes, is_standard}
 use Rattle.msgfmt_tool.specs.RunSteps.{CompilesNamed, Delivers, EndsCompiling, EndsTelling, Tells, Works}

@@ -8,14 +8,14 @@ use Rattle.clap.specs.Kinds.{Kinds}
 use Rattle.clap.specs.declared.error.kind.ErrorKind.{ErrorKind}
 use Rattle.catalogue.specs.MoFile.{spelling}
 use Rattle.catalogue.proofs.SomeMeaning.{some_meaning}
-use Rattle.msgfmt_tool.specs.Words.{AreTaken, AskForHelp, asked, word_faults}
+use Rattle.msgfmt_words.specs.Words.{AreTaken, AskForHelp, asked, word_faults}
 use Rattle.devices.specs.Devices.{IsFront, InputSeen, OutputSeen}
 use Rattle.msgfmt_tool.specs.Runs.{FilesSeen, Reads, Run, Writes, is_standard, most_read}
 use Rattle.msgfmt_tool.specs.Laws.{SettledRun}
 use Rattle.msgfmt_tool.specs.declared.outcome.Cause.TheVariants.{Words, NoInput, Refused}
 use Rattle.msgfmt_tool.specs.declared.outcome.Status.TheVariants.{Done, Failed}
-use Rattle.msgfmt_tool.proofs.OneFault.{One}
-use Rattle.msgfmt_tool.proofs.WordLemmas.{one_fault}
+use Rattle.msgfmt_words.proofs.OneFault.{One}
+use Rattle.msgfmt_words.proofs.WordLemmas.{one_fault}
 use Rattle.msgfmt_tool.proofs.RunLemmas.{between, kept_same, run_over}
 
 -- ---- what is read and written where nothing fails

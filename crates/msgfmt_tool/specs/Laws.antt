@@ -2,7 +2,7 @@
 use Rattle.std.specs.Prelude.{◌≡◌, ⊤, ℕ, List, IsSome}
 use Rattle.msgfmt_tool.specs.Runs.{FilesSeen, MakesFile, Run, Runs}
 use Rattle.devices.specs.Devices.{InputSeen, OutputSeen}
-use Rattle.msgfmt_tool.specs.Words.{Asked}
+use Rattle.msgfmt_words.specs.Words.{Asked}
 use Rattle.msgfmt_tool.specs.declared.outcome.Cause.TheVariants.{Words, NoInput, Refused}
 use Rattle.msgfmt_tool.specs.declared.outcome.Status.{Status}
 use Rattle.msgfmt_tool.specs.declared.outcome.Status.TheVariants.{Done, Failed}

@@ -7,7 +7,7 @@ use Rattle.catalogue.specs.MoFile.{spelling}
 use Rattle.catalogue.specs.declared.Options.{Options}
 use Rattle.catalogue.specs.declared.Compiled.{Compiled}
 use Rattle.catalogue.specs.declared.LoadFault.{LoadFault}
-use Rattle.msgfmt_tool.specs.Words.{Asked}
+use Rattle.msgfmt_words.specs.Words.{Asked}
 use Rattle.msgfmt_tool.specs.Runs.{Change, Fails, FailsToRead, FailsToWrite, FilesSeen, IsUnwritten}
 use Rattle.msgfmt_tool.specs.Runs.{MakesFile, Reads, Run, TellsAll, Writes, is_standard}
 use Rattle.msgfmt_tool.specs.declared.outcome.Cause.{Cause}
@@ -15,9 +15,9 @@ use Rattle.msgfmt_tool.specs.declared.outcome.Cause.TheVariants.{Words, CannotRe
 use Rattle.msgfmt_tool.specs.declared.outcome.Cause.TheVariants.{Refused}
 use Rattle.msgfmt_tool.specs.declared.outcome.Status.{Status}
 use Rattle.msgfmt_tool.specs.declared.outcome.Status.TheVariants.{Done, Failed}
-use Rattle.msgfmt_tool.specs.declared.words.WordsFault.{WordsFault}
-use Rattle.msgfmt_tool.specs.declared.words.WordsFault.TheVariants.{Help, Faulty}
-use Rattle.msgfmt_tool.specs.declared.words.WordsFault.TheVariants as fault
+use Rattle.msgfmt_words.specs.declared.words.WordsFault.{WordsFault}
+use Rattle.msgfmt_words.specs.declared.words.WordsFault.TheVariants.{Help, Faulty}
+use Rattle.msgfmt_words.specs.declared.words.WordsFault.TheVariants as fault
 
 -- ---- reading
 

@@ -8,7 +8,7 @@ use Rattle.catalogue.specs.MoFile.{spelling}
 use Rattle.catalogue.specs.Meaning.{Means, Refuses}
 use Rattle.catalogue.specs.declared.Compiled.{Compiled}
 use Rattle.catalogue.specs.declared.LoadFault.{LoadFault}
-use Rattle.msgfmt_tool.specs.Words.{Asked, AreFaulty, AreTaken, AskForHelp, asked}
+use Rattle.msgfmt_words.specs.Words.{Asked, AreFaulty, AreTaken, AskForHelp, asked}
 use Rattle.msgfmt_tool.specs.declared.outcome.Cause.{Cause}
 use Rattle.msgfmt_tool.specs.declared.outcome.Cause.TheVariants.{Words, NoInput, CannotRead, Refused, CannotWrite}
 use Rattle.msgfmt_tool.specs.declared.outcome.Cause.TheVariants.{ErrorOutput, Memory}

@@ -1,6 +1,6 @@
 //! A run of the command.
 ghost use Rattle.std.specs.Prelude.{◌≡◌, ◌≤◌, map, string_bytes};
-ghost use Rattle.msgfmt_tool.specs.Requests.{asked_in};
+ghost use Rattle.msgfmt_words.specs.Requests.{asked_in};
 ghost use Rattle.msgfmt_tool.specs.Runs.{Runs, change, files_seen};
 ghost use Rattle.devices.specs.Devices.{input_seen, output_seen};
 ghost use Rattle.msgfmt_tool.specs.RunSteps.{AnswersWords, Delivers, Tells, Works};
@@ -8,9 +8,9 @@ ghost use Rattle.msgfmt_tool.specs.RunSteps.{AnswersWords, Delivers, Tells, Work
 use crate::outcome::{Cause, Status};
 use crate::steps::{compile_input, report, warn, write_output};
 use crate::texts::Failure;
-use crate::words::{Request, WordsFault, parse};
 use catalogue::Compiled;
 use devices::{Files, Sink, Source};
+use msgfmt_words::{Request, WordsFault, parse};
 use std::alloc::Global;
 
 /// Delivers what was compiled: the warnings, then FILE, then the statistics.

@@ -9,7 +9,6 @@ mod law;
 mod outcome;
 mod steps;
 mod texts;
-mod words;
 
 pub use command::run;
 pub use law::one_status;

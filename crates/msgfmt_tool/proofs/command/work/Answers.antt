@@ -1,5 +1,5 @@
 use Rattle.std.proofs.Common.{ap, option_map}
-use Rattle.msgfmt_tool.specs.Requests.{asked_in}
+use Rattle.msgfmt_words.specs.Requests.{asked_in}
 use Rattle.msgfmt_tool.specs.Runs.{change, files_seen}
 use Rattle.devices.specs.Devices.{input_seen, output_seen}
 use Rattle.msgfmt_tool.proofs.RunLemmas.{between, delivered, ends_compiling}

@@ -10,11 +10,11 @@ use Rattle.clap.specs.Kinds.{IsAmong}
 use Rattle.clap.specs.declared.parser.matches.Found.{Found}
 use Rattle.clap.specs.declared.error.kind.ErrorKind.{ErrorKind}
 use Rattle.clap.specs.declared.error.kind.ErrorKind.TheVariants as kind
-use Rattle.msgfmt_tool.specs.Words.{Asked, asked_by, is_true, msgfmt, word_faults}
-use Rattle.msgfmt_tool.proofs.OneFault.{One, among_one, built_one}
-use Rattle.msgfmt_tool.specs.Requests.{AnswersKind, Explains}
-use Rattle.msgfmt_tool.specs.declared.words.WordsFault.{WordsFault}
-use Rattle.msgfmt_tool.specs.declared.words.WordsFault.TheVariants as fault
+use Rattle.msgfmt_words.specs.Words.{Asked, asked_by, is_true, msgfmt, word_faults}
+use Rattle.msgfmt_words.proofs.OneFault.{One, among_one, built_one}
+use Rattle.msgfmt_words.specs.Requests.{AnswersKind, Explains}
+use Rattle.msgfmt_words.specs.declared.words.WordsFault.{WordsFault}
+use Rattle.msgfmt_words.specs.declared.words.WordsFault.TheVariants as fault
 
 -- what the values that were found ask for
 pub asked_built : (f : Found) (checked use_fuzzy statistics : Bool) (input : Option (List ℕ)) (output : List ℕ)

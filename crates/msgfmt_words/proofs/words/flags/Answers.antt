@@ -1,6 +1,6 @@
 use Rattle.std.proofs.Common.{arith}
 use Rattle.std.proofs.lemmas.Grind.{common_steps}
-use Rattle.msgfmt_tool.proofs.words.flags.Goals as goal
+use Rattle.msgfmt_words.proofs.words.flags.Goals as goal
 
 pub returns : goal.returns
 returns c = grind (arith, common_steps)

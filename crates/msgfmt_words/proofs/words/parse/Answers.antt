@@ -1,9 +1,9 @@
 use Rattle.std.proofs.Common.{◌∙◌, ap, sym, map, string_bytes, subst}
 use Rattle.clap.specs.Words.{fault_of, is_simple, is_simple_and_free, matches_of, kind_of}
 use Rattle.clap.specs.Kinds.{HasKind}
-use Rattle.msgfmt_tool.specs.Words.{asked_by, msgfmt}
-use Rattle.msgfmt_tool.proofs.WordLemmas.{explained}
-use Rattle.msgfmt_tool.proofs.words.parse.Goals as goal
+use Rattle.msgfmt_words.specs.Words.{asked_by, msgfmt}
+use Rattle.msgfmt_words.proofs.WordLemmas.{explained}
+use Rattle.msgfmt_words.proofs.words.parse.Goals as goal
 
 pub returns-in-Ok-try_get_matches_from-clause-taken :
     goal.returns-in-Ok-try_get_matches_from-clause-taken

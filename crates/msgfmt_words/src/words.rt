@@ -1,28 +1,28 @@
 //! What the arguments of the command line ask for.
 ghost use Rattle.std.specs.Prelude.{◌≡◌, IfOk, IfErr, codes, false, map, string_bytes, unwrap_or};
 ghost use Rattle.clap.specs.Words.{app_of, first_value, found_of, kind_of, new_app, rows_of, rule_of};
-ghost use Rattle.msgfmt_tool.specs.Words.{AreTaken, asked, asked_by, is_true, msgfmt, msgfmt_flags};
-ghost use Rattle.msgfmt_tool.specs.Words.{flag_rule, input_rule, letter_flag_rule, output_rule};
-ghost use Rattle.msgfmt_tool.specs.Requests.{AnswersKind, Explains, asked_in};
+ghost use Rattle.msgfmt_words.specs.Words.{AreTaken, asked, asked_by, is_true, msgfmt, msgfmt_flags};
+ghost use Rattle.msgfmt_words.specs.Words.{flag_rule, input_rule, letter_flag_rule, output_rule};
+ghost use Rattle.msgfmt_words.specs.Requests.{AnswersKind, Explains, asked_in};
 
-use catalogue::Options;
 use clap::error::ErrorKind;
 use clap::{Arg, ArgAction, ArgMatches, Command};
+use po_checks::Options;
 use std::alloc::{AllocError, Global};
 
 /// What the arguments ask for.
 #[derive(Drop)]
-pub(crate) struct Request<'a> {
-    pub(crate) options: Options,
+pub struct Request<'a> {
+    pub options: Options,
     /// The statistics are to be printed.
-    pub(crate) statistics: bool,
-    pub(crate) input: Option<&'a str>,
-    pub(crate) output: &'a str,
+    pub statistics: bool,
+    pub input: Option<&'a str>,
+    pub output: &'a str,
 }
 
 /// Why the arguments give no request.
 #[derive(Drop)]
-pub(crate) enum WordsFault {
+pub enum WordsFault {
     /// They ask for this help text.
     Help(String),
     /// They aren't those of a command line.
@@ -171,7 +171,7 @@ fn fault_of(alloc: Global, error: &clap::Error) -> WordsFault
 }
 
 /// What the arguments ask for. The first one is the program's name.
-pub(crate) fn parse<'a>(alloc: Global, words: &'a [String]) -> Result<Request<'a>, WordsFault>
+pub fn parse<'a>(alloc: Global, words: &'a [String]) -> Result<Request<'a>, WordsFault>
     ensures taken { IfOk result (λ r. AreTaken (map string_bytes words.entry.now)) }
     ensures asked { IfOk result (λ r. asked_in r ≡ asked (map string_bytes words.entry.now)) }
     ensures refused { IfErr result (Explains (map string_bytes words.entry.now)) }

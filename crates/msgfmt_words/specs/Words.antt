@@ -9,7 +9,7 @@ use Rattle.clap.specs.Kinds.{Kinds}
 use Rattle.clap.specs.declared.builder.ArgAction.TheVariants.{Set, SetTrue}
 use Rattle.clap.specs.declared.error.kind.ErrorKind.{ErrorKind}
 use Rattle.clap.specs.declared.error.kind.ErrorKind.TheVariants.{DisplayHelp}
-use Rattle.catalogue.specs.declared.Options.{Options}
+use Rattle.po_checks.specs.declared.options.Options.{Options}
 
 -- ---- the command line of `msgfmt` (GNU gettext manual, "msgfmt Invocation"); -h and --help are clap's own
 

@@ -2,10 +2,10 @@
 use Rattle.std.specs.Prelude.{◌≡◌, ◌≢◌, ⊤, ℕ, List, option_map}
 use Rattle.clap.specs.declared.error.kind.ErrorKind.{ErrorKind}
 use Rattle.clap.specs.declared.error.kind.ErrorKind.TheVariants as kind
-use Rattle.msgfmt_tool.specs.Words.{Asked, AreFaulty, AskForHelp}
-use Rattle.msgfmt_tool.specs.declared.words.Request.{Request}
-use Rattle.msgfmt_tool.specs.declared.words.WordsFault.{WordsFault}
-use Rattle.msgfmt_tool.specs.declared.words.WordsFault.TheVariants.{Help, Faulty, Memory}
+use Rattle.msgfmt_words.specs.Words.{Asked, AreFaulty, AskForHelp}
+use Rattle.msgfmt_words.specs.declared.words.Request.{Request}
+use Rattle.msgfmt_words.specs.declared.words.WordsFault.{WordsFault}
+use Rattle.msgfmt_words.specs.declared.words.WordsFault.TheVariants.{Help, Faulty, Memory}
 
 -- what a request asks for
 abbrev pub asked_in : Request → Asked
