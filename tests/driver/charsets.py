@@ -1,6 +1,6 @@
-"""Compares the specification of crates/charsets with iconv of GNU libc: each byte of each charset and each of its
-names, and each two bytes of the charsets that have characters of several bytes. Of EUC-JP also each three bytes that
-begin with 8F, and of all of these some texts at random.
+"""Compares the specifications of crates/charsets and crates/charset_rows with iconv of GNU libc: each byte of each
+charset and each of its names, and each two bytes of the charsets that have characters of several bytes. Of EUC-JP also
+each three bytes that begin with 8F, and of all of these some texts at random.
 
 usage: tests/driver/charsets.py    at the top of the repository
 """
@@ -12,9 +12,11 @@ import sys
 from pathlib import Path
 
 SPECS = Path("crates/charsets/specs")
+ROWS_SPECS = Path("crates/charset_rows/specs")
 CASES = re.compile(r"^(?P<word>names|table) (?P<variant>\w+) =(?P<value>.*?)(?=^(?:names|table) |\Z)", re.M | re.S)
 TABLE = re.compile(r"^(?P<name>\w+) =\n(?P<rows>(?: +0x.*\n)+)", re.M)
-PAIRS = re.compile(r"^(?:pairs (?P<variant>\w+) first|behind_8f) =(?P<value>.*?)(?=^\w|^--|\Z)", re.M | re.S)
+PAIRS = re.compile(r"^pairs (?P<variant>\w+) first = (?P<grid>\w+) first$", re.M)
+GRID = re.compile(r"^(?P<grid>\w+)(?: first)? =(?P<value>.*?)(?=^\w|^--|\Z)", re.M | re.S)
 CELLS = re.compile(r"first_row = (\w+); first_column = (\w+); rows = (\w+)")
 ROWS = re.compile(r"^(?P<name>\w+) =\n(?P<rows>(?: +.*\n)+)", re.M)
 TERM = re.compile(r'codes "((?:[^"\\]|\\.)*)"|replicate (\d+) 0|(∷)')
@@ -50,7 +52,7 @@ def codes_of(text):
 def rows():
     """The rows of code points, by their names."""
     found = {}
-    for path in SPECS.glob("*Rows.antt"):
+    for path in ROWS_SPECS.glob("*Rows.antt"):
         for listed in ROWS.finditer(path.read_text(encoding="utf-8")):
             found[listed["name"]] = [[]]
             for text, zeros, end in TERM.findall(listed["rows"]):
@@ -62,12 +64,14 @@ def rows():
 
 def grids():
     """The cells of two bytes that have a character, by the variant; those behind 8F are under None."""
-    text, known, found = (SPECS / "Pairs.antt").read_text(encoding="utf-8"), rows(), {}
-    for case in PAIRS.finditer(text):
+    variants = {pairs["grid"]: pairs["variant"] for pairs in PAIRS.finditer((SPECS / "Pairs.antt").read_text("utf-8"))}
+    variants["euc_jp_8f"] = None
+    text, known, found = (ROWS_SPECS / "Grids.antt").read_text(encoding="utf-8"), rows(), {}
+    for case in GRID.finditer(text):
         parts = [(int(row, 16), int(column, 16), known[name]) for row, column, name in CELLS.findall(case["value"])
                  if name in known]
         bounds = [int(bound, 16) for bound in re.findall(r"nat_lt first (\w+)", case["value"])] + [256]
-        found[case["variant"]] = {
+        found[variants[case["grid"]]] = {
             (row + i, column + j): code
             for (row, column, cells), bound in zip(parts, bounds)
             for i, line in enumerate(cells) if row + i < bound for j, code in enumerate(line) if code}

@@ -1,5 +1,5 @@
 #!/usr/bin/env bash
-# The tables of crates/charsets against iconv: each byte and each two bytes of each charset, and each name.
+# The tables of crates/charsets and crates/charset_rows against iconv: each byte and each two bytes of each charset, and each name.
 no_program=1
 . "$(dirname "$0")/../lib/common"
 

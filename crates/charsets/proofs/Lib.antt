@@ -1,5 +1,3 @@
-mod Cells
 mod OneMore
 mod NameLists
 mod Every
-mod Scalars

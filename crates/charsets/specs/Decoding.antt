@@ -6,8 +6,9 @@ use Rattle.charsets.specs.declared.kinds.Charset.TheVariants.{EucJp}
 use Rattle.charsets.specs.declared.reading.DecodeFault.{DecodeFault}
 use Rattle.charsets.specs.declared.reading.DecodeFault.TheVariants.{NoCharacter, Memory}
 use Rattle.charsets.specs.Table.{table}
-use Rattle.charsets.specs.Grid.{cell}
-use Rattle.charsets.specs.Pairs.{behind_8f, pairs}
+use Rattle.charset_rows.specs.Grid.{cell}
+use Rattle.charset_rows.specs.Grids.{euc_jp_8f}
+use Rattle.charsets.specs.Pairs.{pairs}
 
 -- ---- one character
 
@@ -26,7 +27,7 @@ sized code size = if code == 0 then None else Some (code, size)
 
 -- the character that the byte 8F and the first two of these bytes are
 abbrev pub of_three : List ℕ → Option (ℕ × ℕ)
-of_three (second ∷ third ∷ bytes) = sized (cell behind_8f second third) 3
+of_three (second ∷ third ∷ bytes) = sized (cell euc_jp_8f second third) 3
 of_three _ = None
 
 -- the character that a first byte and the first of these bytes are

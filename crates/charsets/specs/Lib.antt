@@ -1,13 +1,5 @@
 pub mod Tables
 pub mod Table
-pub mod EucJpRows
-pub mod EucJp8fRows
-pub mod EucKrRows
-pub mod Big5Rows
-pub mod Gb2312Rows
-pub mod GbkRows
-pub mod Grid
-pub mod GridOf
 pub mod Pairs
 pub mod CharsetNames
 pub mod Every

@@ -1,40 +1,18 @@
 -- The characters of two bytes of each charset.
 
 -- Written by tools/make_charsets.
-use Rattle.std.specs.Prelude.{ℕ, nat_lt, if◌then◌else◌, []}
+use Rattle.std.specs.Prelude.{ℕ, []}
 use Rattle.charsets.specs.declared.kinds.Charset.{Charset}
 use Rattle.charsets.specs.declared.kinds.Charset.TheVariants.{EucJp, EucKr, Big5, Gb2312, Gbk}
-use Rattle.charsets.specs.Grid.{Cells}
-use Rattle.charsets.specs.EucJpRows.{euc_jp_8e, euc_jp_e9}
-use Rattle.charsets.specs.EucJp8fRows.{euc_jp_8f_a2}
-use Rattle.charsets.specs.EucKrRows.{euc_kr_a1, euc_kr_ea}
-use Rattle.charsets.specs.Big5Rows.{big5_a1, big5_c8, big5_ee}
-use Rattle.charsets.specs.Gb2312Rows.{gb2312_a1, gb2312_ec}
-use Rattle.charsets.specs.GbkRows.{gbk_81, gbk_a8, gbk_d1, gbk_f7}
+use Rattle.charset_rows.specs.Grid.{Cells}
+use Rattle.charset_rows.specs.Grids.{euc_jp, euc_kr, big5, gb2312, gbk}
 
 -- the cells among whose rows is that of this first byte, if it has one; there are none in charsets of single
 -- bytes
 abbrev pub pairs : Charset → ℕ → Cells
-pairs EucJp first =
-    if nat_lt first 0xE9 then record { first_row = 0x8E; first_column = 0xA1; rows = euc_jp_8e }
-    else (record { first_row = 0xE9; first_column = 0xA1; rows = euc_jp_e9 })
-pairs EucKr first =
-    if nat_lt first 0xEA then record { first_row = 0xA1; first_column = 0xA1; rows = euc_kr_a1 }
-    else (record { first_row = 0xEA; first_column = 0xA1; rows = euc_kr_ea })
-pairs Big5 first =
-    if nat_lt first 0xC8 then record { first_row = 0xA1; first_column = 0x40; rows = big5_a1 }
-    else (if nat_lt first 0xEE then record { first_row = 0xC8; first_column = 0x40; rows = big5_c8 }
-    else (record { first_row = 0xEE; first_column = 0x40; rows = big5_ee }))
-pairs Gb2312 first =
-    if nat_lt first 0xEC then record { first_row = 0xA1; first_column = 0xA1; rows = gb2312_a1 }
-    else (record { first_row = 0xEC; first_column = 0xA1; rows = gb2312_ec })
-pairs Gbk first =
-    if nat_lt first 0xA8 then record { first_row = 0x81; first_column = 0x40; rows = gbk_81 }
-    else (if nat_lt first 0xD1 then record { first_row = 0xA8; first_column = 0x40; rows = gbk_a8 }
-    else (if nat_lt first 0xF7 then record { first_row = 0xD1; first_column = 0x40; rows = gbk_d1 }
-    else (record { first_row = 0xF7; first_column = 0x40; rows = gbk_f7 })))
+pairs EucJp first = euc_jp first
+pairs EucKr first = euc_kr first
+pairs Big5 first = big5 first
+pairs Gb2312 first = gb2312 first
+pairs Gbk first = gbk first
 pairs _ first = record { first_row = 0; first_column = 0; rows = [] }
-
--- those behind the byte 8F in EUC-JP, of JIS X 0212
-abbrev pub behind_8f : Cells
-behind_8f = record { first_row = 0xA2; first_column = 0xA1; rows = euc_jp_8f_a2 }

@@ -1,13 +1,11 @@
 //! Charsets of one, two and three bytes for a character, decoded to UTF-8.
 #![tactic(auto)]
 
-mod grid;
-mod grids;
 mod kinds;
 mod names;
 mod naming;
+mod pairs;
 mod reading;
-mod rows;
 mod tables;
 #[cfg(test)]
 mod tests;

@@ -5,9 +5,10 @@ ghost use Rattle.charsets.specs.Decoding.{IsDecoded, IsUnmapped, front, is_befor
 ghost use Rattle.std.specs.Char.{IsScalar};
 ghost use Rattle.charsets.specs.declared.reading.DecodeFault.TheVariants.{Memory};
 
-use crate::grids::{behind_8f, pairs};
 use crate::kinds::Charset;
+use crate::pairs::code_of_two;
 use crate::tables::table;
+use charset_rows::euc_jp_8f;
 use std::alloc::{AllocError, Allocator};
 use thiserror::Error;
 
@@ -50,7 +51,7 @@ fn of_three(bytes: &[u8]) -> Option<(char, usize)>
     ensures { result ≡ of_three bytes.now }
 {
     match bytes {
-        [second, third, ..] => sized(behind_8f().cell(*second, *third), 3),
+        [second, third, ..] => sized(euc_jp_8f(*second, *third), 3),
         _ => None,
     }
 }
@@ -60,7 +61,7 @@ fn of_two(charset: Charset, first: u8, bytes: &[u8]) -> Option<(char, usize)>
     ensures { result ≡ of_two charset first bytes.now }
 {
     match bytes {
-        [second, ..] => sized(pairs(charset, first).cell(first, *second), 2),
+        [second, ..] => sized(code_of_two(charset, first, *second), 2),
         _ => None,
     }
 }

@@ -1,7 +1,0 @@
-use Rattle.std.proofs.Common.{refl}
-use Rattle.charsets.specs.Gb2312Rows.{gb2312_ec}
-use Rattle.charsets.proofs.rows.gb2312_ec.rows.Goals as goal
-
-pub returns : goal.returns
-unfolding gb2312_ec
-returns c = refl

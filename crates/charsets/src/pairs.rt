@@ -1,0 +1,23 @@
+//! The characters of two bytes in each charset. Written by tools/make_charsets.
+ghost use Rattle.std.specs.Prelude.{◌≡◌};
+ghost use Rattle.std.specs.Char.{IsScalar};
+ghost use Rattle.charset_rows.specs.Grid.{cell};
+ghost use Rattle.charsets.specs.Pairs.{pairs};
+
+use crate::kinds::Charset;
+use charset_rows::{big5, euc_jp, euc_kr, gb2312, gbk};
+
+/// The code point of two bytes, 0 if they are no character.
+pub(crate) fn code_of_two(charset: Charset, first: u8, second: u8) -> u16
+    ensures value { result ≡ cell (pairs charset first) first second }
+    ensures character { IsScalar result }
+{
+    match charset {
+        Charset::EucJp => euc_jp(first, second),
+        Charset::EucKr => euc_kr(first, second),
+        Charset::Big5 => big5(first, second),
+        Charset::Gb2312 => gb2312(first, second),
+        Charset::Gbk => gbk(first, second),
+        _ => 0,
+    }
+}
