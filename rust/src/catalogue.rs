@@ -6,7 +6,7 @@ use std::os::unix::ffi::OsStrExt;
 use std::path::Path;
 
 use crate::entries::Entries;
-use crate::lookup::{look_ups, Lookup};
+use crate::lookup::look_ups;
 use crate::question::Question;
 use crate::refused::Refused;
 use crate::sys;
@@ -302,17 +302,6 @@ impl Catalogue {
 
     pub(crate) fn handle(&self) -> &sys::Catalogue {
         &self.0
-    }
-}
-
-impl Lookup for Catalogue {
-    #[inline]
-    fn find(&self, question: Question<'_>) -> Option<&str> {
-        self.0.find(&question)
-    }
-
-    fn find_many(&self, questions: &[Question<'_>]) -> Vec<Option<&str>> {
-        self.0.find_many(questions)
     }
 }
 

@@ -77,17 +77,6 @@ impl<'a> Languages<'a> {
     }
 }
 
-impl Lookup for Languages<'_> {
-    #[inline]
-    fn find(&self, question: Question<'_>) -> Option<&str> {
-        self.0.find(&question)
-    }
-
-    fn find_many(&self, questions: &[Question<'_>]) -> Vec<Option<&str>> {
-        self.0.find_many(questions)
-    }
-}
-
 impl fmt::Debug for Languages<'_> {
     fn fmt(&self, f: &mut fmt::Formatter<'_>) -> fmt::Result {
         f.debug_struct("Languages").finish_non_exhaustive()

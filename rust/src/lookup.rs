@@ -3,9 +3,12 @@
 use std::rc::Rc;
 use std::sync::Arc;
 
+use crate::catalogue::Catalogue;
 use crate::languages::Languages;
 use crate::names::Domain;
 use crate::question::Question;
+use crate::reader::Snapshot;
+use crate::set::Set;
 
 /// Translations to look up in: a [`Catalogue`](crate::Catalogue), or a list of [`Languages`] of a
 /// [`Set`](crate::Set) or a [`Snapshot`](crate::Snapshot).
@@ -134,6 +137,24 @@ pub trait Lookup {
     }
 }
 
+/// `Lookup` for types that have its methods themselves.
+macro_rules! lookup_by_methods {
+    ($($texts:ty),+) => {
+        $(impl Lookup for $texts {
+            #[inline]
+            fn find(&self, question: Question<'_>) -> Option<&str> {
+                self.find(question)
+            }
+
+            fn find_many(&self, questions: &[Question<'_>]) -> Vec<Option<&str>> {
+                self.find_many(questions)
+            }
+        })+
+    };
+}
+
+lookup_by_methods!(Catalogue, Languages<'_>);
+
 /// Translations through a pointer to some.
 macro_rules! through_pointers {
     ($($pointer:ty),+) => {
@@ -222,6 +243,28 @@ pub trait Catalogues {
     /// ```
     fn languages<'a>(&'a self, domain: Domain<'a>, languages: &'a str) -> Languages<'a>;
 }
+
+/// `Catalogues` for types that have its methods themselves.
+macro_rules! catalogues_by_methods {
+    ($($set:ty),+) => {
+        $(impl Catalogues for $set {
+            fn version(&self) -> u64 {
+                self.version()
+            }
+
+            #[inline]
+            fn find(&self, domain: Domain<'_>, languages: &str, question: Question<'_>) -> Option<&str> {
+                self.find(domain, languages, question)
+            }
+
+            fn languages<'a>(&'a self, domain: Domain<'a>, languages: &'a str) -> Languages<'a> {
+                self.languages(domain, languages)
+            }
+        })+
+    };
+}
+
+catalogues_by_methods!(Set, Snapshot<'_>);
 
 /// The look-ups of a type, by its method `find`, written once for each lifetime of the answers.
 macro_rules! look_ups {

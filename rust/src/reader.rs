@@ -4,7 +4,6 @@ use std::error::Error;
 use std::fmt;
 
 use crate::languages::Languages;
-use crate::lookup::Catalogues;
 use crate::names::Domain;
 use crate::question::Question;
 use crate::sys;
@@ -315,21 +314,6 @@ impl<'a> Snapshot<'a> {
     #[must_use]
     pub fn into_languages(self, domain: Domain<'a>, languages: &'a str) -> Languages<'a> {
         Languages(self.0.into_languages([domain.0, languages]))
-    }
-}
-
-impl Catalogues for Snapshot<'_> {
-    #[inline]
-    fn find(&self, domain: Domain<'_>, languages: &str, question: Question<'_>) -> Option<&str> {
-        self.0.find([domain.0, languages], &question)
-    }
-
-    fn version(&self) -> u64 {
-        self.version()
-    }
-
-    fn languages<'a>(&'a self, domain: Domain<'a>, languages: &'a str) -> Languages<'a> {
-        self.languages(domain, languages)
     }
 }
 

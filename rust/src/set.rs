@@ -6,7 +6,6 @@ use std::path::Path;
 
 use crate::catalogue::{name_of, Catalogue};
 use crate::languages::{Languages, OwnedLanguages};
-use crate::lookup::Catalogues;
 use crate::names::{Domain, Name};
 use crate::question::Question;
 use crate::refused::Refused;
@@ -167,21 +166,6 @@ impl Set {
 impl Default for Set {
     fn default() -> Set {
         Set::new()
-    }
-}
-
-impl Catalogues for Set {
-    #[inline]
-    fn find(&self, domain: Domain<'_>, languages: &str, question: Question<'_>) -> Option<&str> {
-        self.0.find([domain.0, languages], &question)
-    }
-
-    fn version(&self) -> u64 {
-        self.version()
-    }
-
-    fn languages<'a>(&'a self, domain: Domain<'a>, languages: &'a str) -> Languages<'a> {
-        self.languages(domain, languages)
     }
 }
 
