@@ -3,7 +3,7 @@
 
 use std::path::Path;
 
-use kobdzila::{set_texts, t, tn, Domain, Kind, OwnedLanguages, Preferences, Refused, Set};
+use kobdzila::{set_texts, t, tn, Domain, Fault, OwnedLanguages, Preferences, Refused, Set};
 
 const GREETER: Domain<'static> = Domain("greeter");
 
@@ -28,7 +28,7 @@ fn texts(folder: &Path) -> Result<OwnedLanguages, Refused> {
         match set.with_installed(folder, GREETER, locale) {
             Ok(more) => set = more,
             // (there is none for this locale, or it is no locale)
-            Err(refused) if [Kind::Unreadable, Kind::BadName].contains(&refused.kind()) => {}
+            Err(refused) if [Fault::Unreadable, Fault::BadName].contains(&refused.fault()) => {}
             Err(refused) => return Err(refused),
         }
     }

@@ -42,12 +42,12 @@ impl Options {
     /// Sets whether to run the checks of `msgfmt -c`.
     ///
     /// ```
-    /// use kobdzila::{Catalogue, Kind, Options};
+    /// use kobdzila::{Catalogue, Fault, Options};
     ///
     /// let text = b"msgid \"Winter\\n\"\nmsgstr \"Hiver\"\n";
     /// assert!(Catalogue::from_po(text, Options::new()).is_ok());
     /// let refused = Catalogue::from_po(text, Options::new().checked(true)).unwrap_err();
-    /// assert_eq!(refused.kind(), Kind::PoNewlineMismatch);
+    /// assert_eq!(refused.fault(), Fault::PoNewlineMismatch);
     /// ```
     #[must_use]
     pub fn checked(self, checked: bool) -> Options {
@@ -157,14 +157,14 @@ impl Catalogue {
     /// Opens an MO file from its bytes, which are copied.
     ///
     /// ```
-    /// use kobdzila::{Catalogue, Kind, Options};
+    /// use kobdzila::{Catalogue, Fault, Options};
     ///
     /// let fr = Catalogue::from_po(b"msgid \"Winter\"\nmsgstr \"Hiver\"\n", Options::new())?;
     /// let again = Catalogue::from_mo(fr.mo_file())?;
     /// assert_eq!(again.gettext("Winter"), "Hiver");
     ///
     /// let refused = Catalogue::from_mo(b"no MO file, but long enough for one").unwrap_err();
-    /// assert_eq!(refused.kind(), Kind::MoMagic);
+    /// assert_eq!(refused.fault(), Fault::MoMagic);
     /// # Ok::<(), kobdzila::Refused>(())
     /// ```
     pub fn from_mo(bytes: &[u8]) -> Result<Catalogue, Refused> {
@@ -192,10 +192,10 @@ impl Catalogue {
     ///
     /// ```
     /// use std::error::Error;
-    /// use kobdzila::{Catalogue, Format, Kind};
+    /// use kobdzila::{Catalogue, Fault, Format};
     ///
     /// let refused = Catalogue::open("no/such/file.mo", Format::Mo).unwrap_err();
-    /// assert_eq!(refused.kind(), Kind::Unreadable);
+    /// assert_eq!(refused.fault(), Fault::Unreadable);
     /// let cause = refused.source().and_then(|it| it.downcast_ref::<std::io::Error>());
     /// assert_eq!(cause.map(|it| it.kind()), Some(std::io::ErrorKind::NotFound));
     /// ```

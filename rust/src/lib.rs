@@ -88,7 +88,7 @@ pub use names::{Domain, Name};
 pub use preferences::Preferences;
 pub use question::Question;
 pub use reader::{Notice, Reader, Snapshot, WrongStore};
-pub use refused::{Kind, Refused};
+pub use refused::{Fault, Refused};
 #[cfg(feature = "session")]
 pub use session::{Answer, Ask, LoadRefusal, Session, SessionError};
 pub use set::Set;

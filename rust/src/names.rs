@@ -66,13 +66,13 @@ impl<'a> Name<'a> {
     ///
     /// # Errors
     ///
-    /// [`Kind::BadName`](crate::Kind::BadName) unless each is 1 to 64 letters, digits and `_ - . @ +`.
+    /// [`Fault::BadName`](crate::Fault::BadName) unless each is 1 to 64 letters, digits and `_ - . @ +`.
     ///
     /// ```
-    /// use kobdzila::{Domain, Kind, Name};
+    /// use kobdzila::{Domain, Fault, Name};
     ///
     /// assert!(Name::new(Domain("garden"), "sr@latin").is_ok());
-    /// assert_eq!(Name::new(Domain("garden/beds"), "fr").unwrap_err().kind(), Kind::BadName);
+    /// assert_eq!(Name::new(Domain("garden/beds"), "fr").unwrap_err().fault(), Fault::BadName);
     /// ```
     pub fn new(domain: Domain<'a>, locale: &'a str) -> Result<Name<'a>, Refused> {
         if is_name(domain.0) && is_name(locale) {

@@ -7,7 +7,7 @@ use std::io;
 use crate::sys;
 
 /// Makes the enum and the two functions between its variants and the numbers of `kobdzila.h`.
-macro_rules! kinds {
+macro_rules! faults {
     ($($(#[doc = $text:literal])+ $name:ident = $number:literal,)+) => {
         /// The reason of a refusal: the constants of `enum kob_fault` in `kobdzila.h`.
         ///
@@ -15,43 +15,43 @@ macro_rules! kinds {
         /// writes the library's description.
         ///
         /// ```
-        /// use kobdzila::Kind;
+        /// use kobdzila::Fault;
         ///
-        /// assert_eq!(Kind::PoDuplicate.to_string(), "duplicate message");
-        /// assert_eq!(Kind::PoDuplicate.number(), 109);
+        /// assert_eq!(Fault::PoDuplicate.to_string(), "duplicate message");
+        /// assert_eq!(Fault::PoDuplicate.number(), 109);
         /// ```
         #[derive(Clone, Copy, Debug, PartialEq, Eq, Hash)]
         #[non_exhaustive]
-        pub enum Kind {
+        pub enum Fault {
             $($(#[doc = $text])+ $name,)+
             /// A reason that this version of the crate doesn't know, by its number. Only a newer library reports one.
             Unknown(u32),
         }
 
-        impl Kind {
+        impl Fault {
             /// Returns the number that the reason has in `kobdzila.h`.
             ///
             /// ```
-            /// assert_eq!(kobdzila::Kind::MoMagic.number(), 3);
+            /// assert_eq!(kobdzila::Fault::MoMagic.number(), 3);
             /// ```
             pub fn number(self) -> u32 {
                 match self {
-                    $(Kind::$name => $number,)+
-                    Kind::Unknown(number) => number,
+                    $(Fault::$name => $number,)+
+                    Fault::Unknown(number) => number,
                 }
             }
 
-            fn of_number(number: u32) -> Kind {
+            fn of_number(number: u32) -> Fault {
                 match number {
-                    $($number => Kind::$name,)+
-                    _ => Kind::Unknown(number),
+                    $($number => Fault::$name,)+
+                    _ => Fault::Unknown(number),
                 }
             }
         }
     };
 }
 
-kinds! {
+faults! {
     /// The MO file has more than 268,435,456 bytes.
     MoTooLarge = 1,
     /// The MO file has fewer than 28 bytes.
@@ -139,7 +139,7 @@ kinds! {
     VersionsSpent = 204,
 }
 
-impl fmt::Display for Kind {
+impl fmt::Display for Fault {
     fn fmt(&self, f: &mut fmt::Formatter<'_>) -> fmt::Result {
         f.write_str(sys::fault_text(self.number()))
     }
@@ -152,17 +152,17 @@ impl fmt::Display for Kind {
 /// library may not know. `{file}:{line}: {refused}` is a line that an editor can jump to.
 ///
 /// ```
-/// use kobdzila::{Catalogue, Kind, Options};
+/// use kobdzila::{Catalogue, Fault, Options};
 ///
 /// let twice = "msgid \"a\"\nmsgstr \"x\"\nmsgid \"a\"\nmsgstr \"y\"\n";
 /// let refused = Catalogue::from_po(twice.as_bytes(), Options::new()).unwrap_err();
-/// assert_eq!(refused.kind(), Kind::PoDuplicate);
+/// assert_eq!(refused.fault(), Fault::PoDuplicate);
 /// assert_eq!(refused.line(), Some(3));
 /// assert_eq!(refused.to_string(), "duplicate message");
 /// ```
 #[derive(Debug)]
 pub struct Refused {
-    kind: Kind,
+    fault: Fault,
     line: Option<u32>,
     file: Option<io::Error>,
 }
@@ -171,12 +171,12 @@ impl Refused {
     /// Returns the reason.
     ///
     /// ```
-    /// use kobdzila::{Catalogue, Kind};
+    /// use kobdzila::{Catalogue, Fault};
     ///
-    /// assert_eq!(Catalogue::from_mo(b"too short").unwrap_err().kind(), Kind::MoShort);
+    /// assert_eq!(Catalogue::from_mo(b"too short").unwrap_err().fault(), Fault::MoShort);
     /// ```
-    pub fn kind(&self) -> Kind {
-        self.kind
+    pub fn fault(&self) -> Fault {
+        self.fault
     }
 
     /// Returns the line of the PO text, from 1, if the reason has one.
@@ -195,7 +195,7 @@ impl Refused {
 
 impl fmt::Display for Refused {
     fn fmt(&self, f: &mut fmt::Formatter<'_>) -> fmt::Result {
-        self.kind.fmt(f)
+        self.fault.fmt(f)
     }
 }
 
@@ -208,7 +208,7 @@ impl Error for Refused {
 impl From<sys::Refusal> for Refused {
     fn from(refusal: sys::Refusal) -> Refused {
         Refused {
-            kind: Kind::of_number(refusal.fault),
+            fault: Fault::of_number(refusal.fault),
             line: (refusal.line != 0).then_some(refusal.line),
             file: refusal.file,
         }
@@ -217,25 +217,25 @@ impl From<sys::Refusal> for Refused {
 
 #[cfg(test)]
 mod tests {
-    use super::Kind;
+    use super::Fault;
 
     #[test]
-    fn each_number_of_a_kind_is_that_kind() {
-        let known: Vec<Kind> = (1..300)
-            .map(Kind::of_number)
-            .filter(|it| !matches!(it, Kind::Unknown(_)))
+    fn each_number_of_a_fault_is_that_fault() {
+        let known: Vec<Fault> = (1..300)
+            .map(Fault::of_number)
+            .filter(|it| !matches!(it, Fault::Unknown(_)))
             .collect();
         assert!(known.len() >= 39);
-        for kind in known {
-            assert_eq!(Kind::of_number(kind.number()), kind);
-            assert_ne!(kind.to_string(), "unknown fault");
+        for fault in known {
+            assert_eq!(Fault::of_number(fault.number()), fault);
+            assert_ne!(fault.to_string(), "unknown fault");
         }
     }
 
     #[test]
     fn a_later_library_may_have_other_numbers() {
-        let kind = Kind::of_number(999);
-        assert_eq!((kind, kind.number()), (Kind::Unknown(999), 999));
-        assert_eq!(kind.to_string(), "unknown fault");
+        let fault = Fault::of_number(999);
+        assert_eq!((fault, fault.number()), (Fault::Unknown(999), 999));
+        assert_eq!(fault.to_string(), "unknown fault");
     }
 }

@@ -9,7 +9,7 @@ use std::sync::{Mutex, MutexGuard};
 
 use crate::catalogue::Options;
 use crate::names::Domain;
-use crate::refused::Kind;
+use crate::refused::Fault;
 
 /// The most bytes of a round, without the line that ends it.
 const MOST_BYTES: usize = 67_108_864 - GO.len();
@@ -169,7 +169,7 @@ impl fmt::Display for LoadRefusal {
         write!(f, "{domain} in {locale}: ")?;
         match number {
             Some(number) => write!(f, "refused, number {number}")?,
-            None => write!(f, "{}", Kind::BadName)?,
+            None => write!(f, "{}", Fault::BadName)?,
         }
         line.map_or(Ok(()), |it| write!(f, ", line {it}"))
     }
@@ -508,13 +508,13 @@ fn sendable(name: &str) -> Result<&str, SessionError> {
 }
 
 /// A field of a line as a number. The program writes no others.
-fn number(fields: Option<&Vec<String>>, place: usize) -> u64 {
-    fields.and_then(|it| it.get(place)?.parse().ok()).unwrap_or(0)
+fn number(fields: Option<&Vec<String>>, index: usize) -> u64 {
+    fields.and_then(|it| it.get(index)?.parse().ok()).unwrap_or(0)
 }
 
 /// What a line says of a load that was refused.
 fn refusal(((domain, locale), fields): ((String, String), &Vec<String>)) -> Option<LoadRefusal> {
-    let field = |place: usize| fields.get(place)?.parse().ok();
+    let field = |index: usize| fields.get(index)?.parse().ok();
     fields.first().filter(|it| it.starts_with("refused"))?;
     Some(LoadRefusal {
         domain,

@@ -64,15 +64,15 @@ impl Set {
     ///
     /// # Errors
     ///
-    /// [`Kind::BadName`](crate::Kind::BadName) and [`Kind::Memory`](crate::Kind::Memory).
+    /// [`Fault::BadName`](crate::Fault::BadName) and [`Fault::Memory`](crate::Fault::Memory).
     ///
     /// ```
-    /// use kobdzila::{Catalogue, Domain, Kind, Options, Set};
+    /// use kobdzila::{Catalogue, Domain, Fault, Options, Set};
     ///
     /// let fr = Catalogue::from_po(b"msgid \"Winter\"\nmsgstr \"Hiver\"\n", Options::new())?;
     /// let set = Set::new().with(Domain("garden"), "fr", &fr)?;
     /// assert_eq!(set.languages(Domain("garden"), "sv:fr_CA").gettext("Winter"), "Hiver");
-    /// assert_eq!(set.with(Domain("garden/beds"), "fr", &fr).unwrap_err().kind(), Kind::BadName);
+    /// assert_eq!(set.with(Domain("garden/beds"), "fr", &fr).unwrap_err().fault(), Fault::BadName);
     /// # Ok::<(), kobdzila::Refused>(())
     /// ```
     pub fn with(&self, domain: Domain<'_>, locale: &str, catalogue: &Catalogue) -> Result<Set, Refused> {
@@ -85,13 +85,13 @@ impl Set {
     /// # Errors
     ///
     /// Those of [`with`](Set::with) and of [`Catalogue::open`]. The names `.` and `..` are
-    /// [`Kind::BadName`](crate::Kind::BadName) here.
+    /// [`Fault::BadName`](crate::Fault::BadName) here.
     ///
     /// ```
-    /// use kobdzila::{Domain, Kind, Set};
+    /// use kobdzila::{Domain, Fault, Set};
     ///
     /// let refused = Set::new().with_installed("no/such/folder", Domain("garden"), "fr").unwrap_err();
-    /// assert_eq!(refused.kind(), Kind::Unreadable);
+    /// assert_eq!(refused.fault(), Fault::Unreadable);
     /// ```
     pub fn with_installed(&self, folder: impl AsRef<Path>, domain: Domain<'_>, locale: &str) -> Result<Set, Refused> {
         let folder = name_of(folder.as_ref())?;

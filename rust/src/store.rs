@@ -65,16 +65,16 @@ impl Store {
     ///
     /// # Errors
     ///
-    /// [`Kind::BadName`](crate::Kind::BadName), [`Kind::Memory`](crate::Kind::Memory) and, after 2^58 - 1 loads,
-    /// [`Kind::VersionsSpent`](crate::Kind::VersionsSpent). A refused load changes nothing.
+    /// [`Fault::BadName`](crate::Fault::BadName), [`Fault::Memory`](crate::Fault::Memory) and, after 2^58 - 1 loads,
+    /// [`Fault::VersionsSpent`](crate::Fault::VersionsSpent). A refused load changes nothing.
     ///
     /// ```
-    /// use kobdzila::{Catalogue, Domain, Kind, Options, Store};
+    /// use kobdzila::{Catalogue, Domain, Fault, Options, Store};
     ///
     /// let store = Store::new();
     /// let fr = Catalogue::from_po(b"msgid \"Winter\"\nmsgstr \"Hiver\"\n", Options::new())?;
     /// store.load(Domain("garden"), "fr", &fr)?;
-    /// assert_eq!(store.load(Domain("garden/beds"), "fr", &fr).unwrap_err().kind(), Kind::BadName);
+    /// assert_eq!(store.load(Domain("garden/beds"), "fr", &fr).unwrap_err().fault(), Fault::BadName);
     /// assert_eq!((store.pending(), store.version()), (1, 0));
     /// # Ok::<(), kobdzila::Refused>(())
     /// ```
@@ -149,7 +149,7 @@ impl Store {
     ///
     /// # Errors
     ///
-    /// [`Kind::Memory`](crate::Kind::Memory).
+    /// [`Fault::Memory`](crate::Fault::Memory).
     ///
     /// ```
     /// let store = kobdzila::Store::new();
@@ -166,7 +166,7 @@ impl Store {
     ///
     /// # Errors
     ///
-    /// [`Kind::Memory`](crate::Kind::Memory).
+    /// [`Fault::Memory`](crate::Fault::Memory).
     ///
     /// ```
     /// let store = kobdzila::Store::new();

@@ -18,7 +18,7 @@ use std::time::{Duration, Instant};
 
 use crate::catalogue::{Catalogue, Options};
 use crate::names::Domain;
-use crate::refused::{Kind, Refused};
+use crate::refused::{Fault, Refused};
 use crate::store::Store;
 use crate::sys::inotify::{self, Changes};
 use crate::sys::Refusal;
@@ -293,7 +293,7 @@ impl fmt::Debug for WatchOptions {
 /// It displays as a line that an editor can jump to, such as `fr.po:3: duplicate message`.
 ///
 /// ```
-/// # use kobdzila::{Kind, Store, WatchOptions};
+/// # use kobdzila::{Fault, Store, WatchOptions};
 /// # let folder = std::env::temp_dir().join(format!("kobdzila-refused-{}", std::process::id()));
 /// # std::fs::create_dir_all(folder.join("fr/LC_MESSAGES"))?;
 /// # let store = std::sync::Arc::new(Store::new());
@@ -301,7 +301,7 @@ impl fmt::Debug for WatchOptions {
 /// WatchOptions::new(&folder)
 ///     .refused(|file| {
 ///         assert!(file.path().ends_with("fr/LC_MESSAGES/garden.po"));
-///         assert_eq!((file.line(), file.kind()), (Some(1), Some(Kind::PoOpenString)));
+///         assert_eq!((file.line(), file.fault()), (Some(1), Some(Fault::PoOpenString)));
 ///     })
 ///     .start(&store)?;
 /// # std::fs::remove_dir_all(&folder)?;
@@ -329,11 +329,11 @@ impl FileRefused {
     ///
     /// ```
     /// fn is_out_of_memory(file: &kobdzila::FileRefused) -> bool {
-    ///     file.kind() == Some(kobdzila::Kind::Memory)
+    ///     file.fault() == Some(kobdzila::Fault::Memory)
     /// }
     /// ```
-    pub fn kind(&self) -> Option<Kind> {
-        self.why.as_ref().map(Refused::kind)
+    pub fn fault(&self) -> Option<Fault> {
+        self.why.as_ref().map(Refused::fault)
     }
 
     /// Returns the line of the PO text, from 1, if the reason has one.

@@ -1,4 +1,4 @@
-//! Compares the kinds of `src/refused.rs` with `kobdzila.h`, as texts: each fault of the header is a kind.
+//! Compares the faults of `src/refused.rs` with those of `kobdzila.h`, as texts.
 //!
 //! The header is the repository's, or that of the variable `KOBDZILA_HEADER`. The crate alone has none to compare with.
 
@@ -39,7 +39,7 @@ fn variant(constant: &str) -> String {
 }
 
 #[test]
-fn kinds_are_the_faults_of_the_header() {
+fn faults_are_those_of_the_header() {
     let faults = match faults() {
         Some(faults) => faults,
         None => return,
@@ -49,7 +49,13 @@ fn kinds_are_the_faults_of_the_header() {
         .map(|(name, number)| (variant(name), number))
         .collect();
     assert_eq!(wanted.remove("NoFault"), Some(0));
-    let table = REFUSED.split("\nkinds! {").nth(1).unwrap().split("\n}").next().unwrap();
+    let table = REFUSED
+        .split("\nfaults! {")
+        .nth(1)
+        .unwrap()
+        .split("\n}")
+        .next()
+        .unwrap();
     let ours = numbered(table)
         .into_iter()
         .map(|(name, number)| (name.to_string(), number))

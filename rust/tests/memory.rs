@@ -1,12 +1,12 @@
 //! Loads, publishes and enters, and prints which of these calls found no memory. `tests/rust/rust.sh` of the repository
 //! refuses this program one request for memory after another; without that it prints nothing.
 
-use kobdzila::{Catalogue, Domain, Kind, Options, Refused, Store};
+use kobdzila::{Catalogue, Domain, Fault, Options, Refused, Store};
 
 /// What the call returns. If memory runs out, it is called again, and then has to succeed.
 fn twice<T>(name: &str, call: impl Fn() -> Result<T, Refused>) -> T {
     call().unwrap_or_else(|refused| {
-        assert_eq!(refused.kind(), Kind::Memory);
+        assert_eq!(refused.fault(), Fault::Memory);
         println!("{name}: {refused}");
         call().unwrap()
     })

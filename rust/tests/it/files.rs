@@ -1,5 +1,5 @@
 use crate::{compiled, GARDEN};
-use kobdzila::{Catalogue, Domain, Format, Kind, Options, Set};
+use kobdzila::{Catalogue, Domain, Fault, Format, Options, Set};
 use std::error::Error;
 use std::ffi::OsStr;
 use std::io::ErrorKind;
@@ -26,7 +26,7 @@ impl Drop for Folder {
 
 fn refused_with(path: impl AsRef<Path>) -> ErrorKind {
     let refused = Catalogue::open(path, Format::Mo).unwrap_err();
-    assert_eq!((refused.kind(), refused.line()), (Kind::Unreadable, None));
+    assert_eq!((refused.fault(), refused.line()), (Fault::Unreadable, None));
     assert_eq!(refused.to_string(), "file not readable");
     let cause = refused.source().unwrap().downcast_ref::<io::Error>().unwrap();
     cause.kind()
@@ -42,11 +42,11 @@ fn files_of_both_formats() {
     let read = Catalogue::open(&mo, Format::Mo).unwrap();
     assert_eq!(compiled.mo_file(), read.mo_file());
     let refused = Catalogue::open(&po, Format::Mo).unwrap_err();
-    assert_eq!(refused.kind(), Kind::MoMagic);
+    assert_eq!(refused.fault(), Fault::MoMagic);
     assert!(refused.source().is_none());
     assert_eq!(
-        Catalogue::open(&mo, Format::Po(Options::new())).unwrap_err().kind(),
-        Kind::PoNotUtf8
+        Catalogue::open(&mo, Format::Po(Options::new())).unwrap_err().fault(),
+        Fault::PoNotUtf8
     );
 }
 
@@ -76,10 +76,10 @@ fn installed_catalogues() {
     let set = Set::new().with_installed(&folder.0, Domain("garden"), "fr").unwrap();
     assert_eq!(set.languages(Domain("garden"), "fr").gettext("Winter"), "Hiver");
     let refused = set.with_installed(&folder.0, Domain("garden"), "de").unwrap_err();
-    assert_eq!(refused.kind(), Kind::Unreadable);
+    assert_eq!(refused.fault(), Fault::Unreadable);
     assert!(refused.source().is_some());
     assert_eq!(
-        set.with_installed(&folder.0, Domain(".."), "fr").unwrap_err().kind(),
-        Kind::BadName
+        set.with_installed(&folder.0, Domain(".."), "fr").unwrap_err().fault(),
+        Fault::BadName
     );
 }

@@ -1,4 +1,4 @@
-use kobdzila::{Catalogue, Kind, Options, Question};
+use kobdzila::{Catalogue, Fault, Options, Question};
 use std::error::Error;
 
 const PLURAL: &str = "msgid \"a\"\nmsgid_plural \"b\"\nmsgstr[0] \"c\"\n";
@@ -8,18 +8,18 @@ fn ruled(rule: &str) -> String {
 }
 
 /// The text is refused for this reason, at this line.
-fn refuses_po(text: &[u8], kind: Kind, line: Option<u32>, message: &str) {
+fn refuses_po(text: &[u8], fault: Fault, line: Option<u32>, message: &str) {
     let refused = Catalogue::from_po(text, Options::new().checked(true)).unwrap_err();
-    assert_eq!((refused.kind(), refused.line()), (kind, line));
+    assert_eq!((refused.fault(), refused.line()), (fault, line));
     assert_eq!(refused.to_string(), message);
-    assert_eq!(kind.to_string(), message);
+    assert_eq!(fault.to_string(), message);
     assert!(refused.source().is_none());
 }
 
 #[test]
 fn each_reason_of_a_po_text() {
-    use Kind::*;
-    let texts: [(&str, Kind, u32, &str); 14] = [
+    use Fault::*;
+    let texts: [(&str, Fault, u32, &str); 14] = [
         ("msgid \"a\"\nmsgstr \"\\q\"\n", PoBadEscape, 2, "bad escape"),
         ("msgid \"a\nmsgstr \"x\"\n", PoOpenString, 1, "string not closed"),
         ("word\n", PoBadWord, 1, "unknown word"),
@@ -65,8 +65,8 @@ fn each_reason_of_a_po_text() {
             "newlines differ",
         ),
     ];
-    for (text, kind, line, message) in texts {
-        refuses_po(text.as_bytes(), kind, Some(line), message);
+    for (text, fault, line, message) in texts {
+        refuses_po(text.as_bytes(), fault, Some(line), message);
     }
     refuses_po(b"\xff", PoNotUtf8, Some(1), "not UTF-8");
     refuses_po(&vec![b'\n'; 67_108_865], PoTooLarge, None, "file too large");
@@ -87,44 +87,44 @@ fn mo_file(entries: &[(&[u8], &[u8])]) -> Vec<u8> {
     words.chain(strings).collect()
 }
 
-fn refuses_mo(file: &[u8], kind: Kind, message: &str) {
+fn refuses_mo(file: &[u8], fault: Fault, message: &str) {
     let refused = Catalogue::from_mo(file).unwrap_err();
-    assert_eq!((refused.kind(), refused.line()), (kind, None));
+    assert_eq!((refused.fault(), refused.line()), (fault, None));
     assert_eq!(refused.to_string(), message);
 }
 
 /// The MO file of one entry, with one word of it changed.
-fn refuses_changed(place: usize, word: u32, kind: Kind, message: &str) {
+fn refuses_changed(offset: usize, word: u32, fault: Fault, message: &str) {
     let mut file = mo_file(&[(b"a", b"b")]);
     assert!(Catalogue::from_mo(&file).is_ok());
-    file[place..place + 4].copy_from_slice(&word.to_le_bytes());
-    refuses_mo(&file, kind, message);
+    file[offset..offset + 4].copy_from_slice(&word.to_le_bytes());
+    refuses_mo(&file, fault, message);
 }
 
 #[test]
 fn each_reason_of_an_mo_file() {
-    refuses_mo(b"", Kind::MoShort, "file too short");
-    refuses_mo(&[0; 27], Kind::MoShort, "file too short");
-    refuses_changed(0, 1, Kind::MoMagic, "not an MO file");
-    refuses_changed(4, 2, Kind::MoRevision, "unknown revision");
-    refuses_changed(4, 1, Kind::MoDependentTables, "system-dependent tables out of bounds");
-    refuses_changed(32, 1000, Kind::MoBounds, "out of bounds");
-    refuses_changed(28, 0, Kind::MoNoNul, "string not closed");
-    refuses_mo(&mo_file(&[(b"\xff", b"b")]), Kind::MoBadText, "bad text");
-    refuses_mo(&mo_file(&[(b"a", b"b\0c")]), Kind::MoForms, "wrong plural forms");
+    refuses_mo(b"", Fault::MoShort, "file too short");
+    refuses_mo(&[0; 27], Fault::MoShort, "file too short");
+    refuses_changed(0, 1, Fault::MoMagic, "not an MO file");
+    refuses_changed(4, 2, Fault::MoRevision, "unknown revision");
+    refuses_changed(4, 1, Fault::MoDependentTables, "system-dependent tables out of bounds");
+    refuses_changed(32, 1000, Fault::MoBounds, "out of bounds");
+    refuses_changed(28, 0, Fault::MoNoNul, "string not closed");
+    refuses_mo(&mo_file(&[(b"\xff", b"b")]), Fault::MoBadText, "bad text");
+    refuses_mo(&mo_file(&[(b"a", b"b\0c")]), Fault::MoForms, "wrong plural forms");
     refuses_mo(
         &mo_file(&[(b"b", b"c"), (b"a", b"d")]),
-        Kind::MoOrder,
+        Fault::MoOrder,
         "keys out of order",
     );
     refuses_mo(
         &mo_file(&[(b"", b"charset=EUC-TW\n")]),
-        Kind::MoCharset,
+        Fault::MoCharset,
         "unsupported charset",
     );
     refuses_mo(
         &mo_file(&[(b"", b"charset=CP1252\n"), (b"a", b"\x81")]),
-        Kind::MoNoCharacter,
+        Fault::MoNoCharacter,
         "byte without a character",
     );
 }
@@ -153,12 +153,12 @@ fn strings_that_depend_on_the_system() {
     assert_eq!(compiled.mo_file(), file);
     assert_eq!(compiled.gettext("n %lu"), "%lu N");
     file[84] = 0;
-    refuses_mo(&file, Kind::MoDependentSegment, "bad segment");
+    refuses_mo(&file, Fault::MoDependentSegment, "bad segment");
 }
 
 #[test]
 fn an_mo_file_that_is_too_large() {
-    refuses_mo(&vec![0; 268_435_457], Kind::MoTooLarge, "file too large");
+    refuses_mo(&vec![0; 268_435_457], Fault::MoTooLarge, "file too large");
 }
 
 #[test]
@@ -173,13 +173,13 @@ fn a_small_mo_file_of_a_map_that_is_too_large() {
     let mut file: Vec<u8> = words.flat_map(u32::to_le_bytes).collect();
     file.extend((0..count).flat_map(|i| format!("{i:03}\0").into_bytes()));
     file.extend((0..long).map(|_| b'x').chain([0]));
-    refuses_mo(&file, Kind::MoSwollen, "map too large");
+    refuses_mo(&file, Fault::MoSwollen, "map too large");
 }
 
 #[test]
 fn offsets_that_lead_out_of_the_file() {
     for offset in [0x7fff_ff00, 0x0010_0000, u32::MAX, 52] {
-        refuses_changed(40, offset, Kind::MoBounds, "out of bounds");
+        refuses_changed(40, offset, Fault::MoBounds, "out of bounds");
     }
 }
 
@@ -201,16 +201,16 @@ fn a_changed_file_is_refused_or_read_as_a_whole() {
     let plural = ("\u{4}née\0nées".as_bytes(), "é\0à".as_bytes());
     let file = mo_file(&[(b"", header), plural, (b"c\x04d", b"e")]);
     let mut read = 0;
-    for place in 0..file.len() {
+    for offset in 0..file.len() {
         for bit in 0..8 {
             let mut changed = file.clone();
-            changed[place] ^= 1 << bit;
+            changed[offset] ^= 1 << bit;
             if let Ok(catalogue) = Catalogue::from_mo(&changed) {
                 is_whole(&catalogue);
                 read += 1;
             }
         }
-        assert!(Catalogue::from_mo(&file[..place]).is_err());
+        assert!(Catalogue::from_mo(&file[..offset]).is_err());
     }
     assert!(read > 100);
 }

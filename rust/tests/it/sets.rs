@@ -1,5 +1,5 @@
 use crate::{compiled, GARDEN};
-use kobdzila::{Catalogue, Domain, Kind, Name, Options, Question, Refused, Set};
+use kobdzila::{Catalogue, Domain, Fault, Name, Options, Question, Refused, Set};
 
 fn message(msgid: &str, msgstr: &str) -> kobdzila::Catalogue {
     compiled(&format!("msgid \"{msgid}\"\nmsgstr \"{msgstr}\"\n"))
@@ -76,15 +76,18 @@ fn a_nul_is_in_no_name_and_no_message() {
     assert_eq!(set.languages(Domain("garden"), "fr").find("Winter\0"), None);
     let fr = compiled(GARDEN);
     for (domain, locale) in [("garden\0x", "fr"), ("garden", "fr\0x"), ("", "fr"), ("garden", "f/r")] {
-        assert_eq!(set.with(Domain(domain), locale, &fr).unwrap_err().kind(), Kind::BadName);
         assert_eq!(
-            set.with_installed(".", Domain(domain), locale).unwrap_err().kind(),
-            Kind::BadName
+            set.with(Domain(domain), locale, &fr).unwrap_err().fault(),
+            Fault::BadName
+        );
+        assert_eq!(
+            set.with_installed(".", Domain(domain), locale).unwrap_err().fault(),
+            Fault::BadName
         );
     }
     assert_eq!(
-        set.with_installed("a\0b", Domain("garden"), "fr").unwrap_err().kind(),
-        Kind::Unreadable
+        set.with_installed("a\0b", Domain("garden"), "fr").unwrap_err().fault(),
+        Fault::Unreadable
     );
 }
 

@@ -1,5 +1,5 @@
 use crate::{compiled, GARDEN};
-use kobdzila::{Catalogue, Domain, Kind, Notice, Question, Reader, Store, WrongStore};
+use kobdzila::{Catalogue, Domain, Fault, Notice, Question, Reader, Store, WrongStore};
 
 fn message(msgid: &str, msgstr: &str) -> Catalogue {
     compiled(&format!("msgid \"{msgid}\"\nmsgstr \"{msgstr}\"\n"))
@@ -76,13 +76,13 @@ fn names_that_are_not_valid_are_refused_and_change_nothing() {
             store.load(Domain("garden"), name, &fr),
         ] {
             let refused = refused.unwrap_err();
-            assert_eq!((refused.kind(), refused.line()), (Kind::BadName, None));
+            assert_eq!((refused.fault(), refused.line()), (Fault::BadName, None));
         }
     }
     assert_eq!((store.version(), store.pending()), (0, 1));
     assert_eq!(store.publish(), Ok(1));
     assert_eq!(winter(&mut store.reader().unwrap()), ("Hiver", 1));
-    assert_eq!(Kind::VersionsSpent.to_string(), "no more versions");
+    assert_eq!(Fault::VersionsSpent.to_string(), "no more versions");
 }
 
 #[test]

@@ -1,6 +1,6 @@
 use crate::{compiled, GARDEN};
 use kobdzila::{
-    Catalogue, Domain, Entries, Entry, Format, Forms, Kind, Name, Notice, Options, OwnedLanguages, PublishError,
+    Catalogue, Domain, Entries, Entry, Fault, Format, Forms, Name, Notice, Options, OwnedLanguages, PublishError,
     Question, Reader, Refused, Set, Snapshot, Store, WrongStore,
 };
 use std::sync::atomic::{AtomicBool, Ordering};
@@ -21,7 +21,7 @@ fn types_that_may_be_sent_and_shared() {
     is_sent_and_shared::<WrongStore>();
     is_sent_and_shared::<Refused>();
     is_sent_and_shared::<(Domain<'_>, Name<'_>, Question<'_>)>();
-    is_sent_and_shared::<(Format, Kind, Options)>();
+    is_sent_and_shared::<(Format, Fault, Options)>();
 }
 
 #[test]

@@ -1,5 +1,5 @@
 use crate::{compiled, GARDEN};
-use kobdzila::{Domain, FileRefused, Kind, Store, Watch, WatchOptions};
+use kobdzila::{Domain, Fault, FileRefused, Store, Watch, WatchOptions};
 use std::fs::{self, File};
 use std::io::Write;
 use std::path::PathBuf;
@@ -173,10 +173,10 @@ fn a_file_that_is_refused_is_reported_once_and_changes_nothing() {
         garden.refused(),
         [
             "fr/LC_MESSAGES/no name.po: not a text domain or locale".to_string(),
-            format!("{PO}:3: {}", Kind::PoBadWord),
+            format!("{PO}:3: {}", Fault::PoBadWord),
         ]
         .map(|it| if it.contains("no name") {
-            format!("fr/LC_MESSAGES/no name.po: {}", Kind::BadName)
+            format!("fr/LC_MESSAGES/no name.po: {}", Fault::BadName)
         } else {
             it
         })
