@@ -198,13 +198,13 @@ typedef struct {
     size_t forms; /* number of forms, at least 1 */
 } kob_entry;
 
-/* Store entry number `place` in *entry and return 1, or return 0 if there is no such entry. Entries are numbered
+/* Store entry number `index` in *entry and return 1, or return 0 if there is no such entry. Entries are numbered
  * from 0, in ascending order of their keys' bytes. */
-int kob_entry_at(const kob_catalogue *catalogue, size_t place, kob_entry *entry);
+int kob_entry_at(const kob_catalogue *catalogue, size_t index, kob_entry *entry);
 
-/* Return form number `form` of entry number `place`, both counted from 0. It doesn't end in NUL; `at` is NULL if there
+/* Return form number `form` of entry number `index`, both counted from 0. It doesn't end in NUL; `at` is NULL if there
  * is no such form. */
-kob_text kob_form_at(const kob_catalogue *catalogue, size_t place, size_t form);
+kob_text kob_form_at(const kob_catalogue *catalogue, size_t index, size_t form);
 
 /* How many messages of a PO file are translated, fuzzy and untranslated. The header is none of them. */
 typedef struct {
@@ -287,9 +287,9 @@ kob_format_faults *kob_check_formats(const void *bytes, size_t len, unsigned opt
 /* Return how many faults there are. */
 size_t kob_format_fault_count(const kob_format_faults *faults);
 
-/* Store fault number `place` in *fault and return 1, or return 0 if there is none. Faults are numbered from 0, in the
+/* Store fault number `index` in *fault and return 1, or return 0 if there is none. Faults are numbered from 0, in the
  * order of the file. */
-int kob_format_fault_at(const kob_format_faults *faults, size_t place, kob_format_fault *fault);
+int kob_format_fault_at(const kob_format_faults *faults, size_t index, kob_format_fault *fault);
 
 /* Free a list of faults. No other call may be using it. */
 void kob_format_faults_free(kob_format_faults *faults);

@@ -52,8 +52,8 @@ void kobdzila_open_mo(const unsigned char *bytes, size_t len, uint32_t strict, u
 void kobdzila_open_po(const unsigned char *bytes, size_t len, uint32_t checked, uint32_t use_fuzzy, uint32_t strict,
                       uint32_t without_index, struct held_catalogue *out);
 void kobdzila_close(struct held_catalogue *catalogue);
-uint64_t kobdzila_number(const struct held_catalogue *catalogue, uint32_t which, uint64_t place);
-void kobdzila_text(const struct held_catalogue *catalogue, uint32_t part, uint64_t place, uint64_t form,
+uint64_t kobdzila_number(const struct held_catalogue *catalogue, uint32_t which, uint64_t index);
+void kobdzila_text(const struct held_catalogue *catalogue, uint32_t part, uint64_t index, uint64_t form,
                    struct lent *out);
 void kobdzila_gettext(const struct held_catalogue *catalogue, const unsigned char *msgid, size_t msgid_len,
                       struct lent *out);
@@ -69,7 +69,7 @@ void kobdzila_write_po(const struct held_catalogue *catalogue, uint32_t escape, 
 void kobdzila_format_faults(const unsigned char *bytes, size_t len, uint32_t checked, uint32_t use_fuzzy,
                             struct held_output *out);
 void kobdzila_recode(const unsigned char *bytes, size_t len, struct held_output *out);
-uint64_t kobdzila_output_number(const struct held_output *output, uint32_t which, uint64_t place);
+uint64_t kobdzila_output_number(const struct held_output *output, uint32_t which, uint64_t index);
 void kobdzila_output_text(const struct held_output *output, struct lent *out);
 void kobdzila_output_close(struct held_output *output);
 

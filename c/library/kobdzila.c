@@ -163,27 +163,27 @@ void kob_find_many(const kob_catalogue *c, const kob_question *questions, size_t
 
 size_t kob_count(const kob_catalogue *c) { return (size_t)kobdzila_number(read_catalogue(c), COUNT, 0); }
 
-static kob_text text_at(const kob_catalogue *c, uint32_t part, size_t place, size_t form) {
+static kob_text text_at(const kob_catalogue *c, uint32_t part, size_t index, size_t form) {
     struct lent out;
-    kobdzila_text(read_catalogue(c), part, place, form, &out);
+    kobdzila_text(read_catalogue(c), part, index, form, &out);
     return (kob_text){ (const char *)out.at, out.len };
 }
 
-int kob_entry_at(const kob_catalogue *c, size_t place, kob_entry *entry) {
+int kob_entry_at(const kob_catalogue *c, size_t index, kob_entry *entry) {
     const kob_text none = { NULL, 0 };
-    if (place >= kob_count(c))
+    if (index >= kob_count(c))
         return 0;
-    entry->context = kobdzila_number(read_catalogue(c), HAS_CONTEXT, place) ? text_at(c, CONTEXT, place, 0) : none;
-    entry->msgid = text_at(c, MSGID, place, 0);
-    entry->plural = kobdzila_number(read_catalogue(c), HAS_PLURAL, place) ? text_at(c, PLURAL, place, 0) : none;
-    entry->forms = (size_t)kobdzila_number(read_catalogue(c), FORMS, place);
+    entry->context = kobdzila_number(read_catalogue(c), HAS_CONTEXT, index) ? text_at(c, CONTEXT, index, 0) : none;
+    entry->msgid = text_at(c, MSGID, index, 0);
+    entry->plural = kobdzila_number(read_catalogue(c), HAS_PLURAL, index) ? text_at(c, PLURAL, index, 0) : none;
+    entry->forms = (size_t)kobdzila_number(read_catalogue(c), FORMS, index);
     return 1;
 }
 
-kob_text kob_form_at(const kob_catalogue *c, size_t place, size_t form) {
-    if (form >= kobdzila_number(read_catalogue(c), FORMS, place))
+kob_text kob_form_at(const kob_catalogue *c, size_t index, size_t form) {
+    if (form >= kobdzila_number(read_catalogue(c), FORMS, index))
         return (kob_text){ NULL, 0 };
-    return text_at(c, FORM, place, form);
+    return text_at(c, FORM, index, form);
 }
 
 void kob_statistics(const kob_catalogue *c, kob_counts *counts) {

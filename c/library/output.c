@@ -4,8 +4,8 @@
 
 static struct held_output *held_output(void *made) { return made; }
 
-static uint64_t number_of_output(const void *made, uint32_t which, size_t place) {
-    return kobdzila_output_number(made, which, place);
+static uint64_t number_of_output(const void *made, uint32_t which, size_t index) {
+    return kobdzila_output_number(made, which, index);
 }
 
 static void free_output(void *made) {
@@ -67,13 +67,13 @@ kob_format_faults *kob_check_formats(const void *bytes, size_t len, unsigned opt
 
 size_t kob_format_fault_count(const kob_format_faults *faults) { return number_of_output(faults, COUNT, 0); }
 
-int kob_format_fault_at(const kob_format_faults *faults, size_t place, kob_format_fault *fault) {
-    if (place >= kob_format_fault_count(faults))
+int kob_format_fault_at(const kob_format_faults *faults, size_t index, kob_format_fault *fault) {
+    if (index >= kob_format_fault_count(faults))
         return 0;
-    fault->line = (unsigned)number_of_output(faults, FAULT_LINE, place);
-    fault->language = (enum kob_format_language)number_of_output(faults, FAULT_LANGUAGE, place);
-    fault->form = (unsigned)number_of_output(faults, FAULT_FORM, place);
-    fault->difference = (enum kob_format_difference)number_of_output(faults, FAULT_DIFFERENCE, place);
+    fault->line = (unsigned)number_of_output(faults, FAULT_LINE, index);
+    fault->language = (enum kob_format_language)number_of_output(faults, FAULT_LANGUAGE, index);
+    fault->form = (unsigned)number_of_output(faults, FAULT_FORM, index);
+    fault->difference = (enum kob_format_difference)number_of_output(faults, FAULT_DIFFERENCE, index);
     return 1;
 }
 

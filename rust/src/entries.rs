@@ -22,22 +22,22 @@ use crate::sys;
 #[derive(Clone)]
 pub struct Entries<'a> {
     catalogue: &'a sys::Catalogue,
-    places: Range<usize>,
+    indexes: Range<usize>,
 }
 
 impl<'a> Entries<'a> {
     pub(crate) fn new(catalogue: &'a sys::Catalogue) -> Entries<'a> {
         Entries {
             catalogue,
-            places: 0..catalogue.count(),
+            indexes: 0..catalogue.count(),
         }
     }
 
-    fn entry(&self, place: usize) -> Option<Entry<'a>> {
-        let strings = self.catalogue.entry_at(place)?;
+    fn entry(&self, index: usize) -> Option<Entry<'a>> {
+        let strings = self.catalogue.entry_at(index)?;
         Some(Entry {
             catalogue: self.catalogue,
-            place,
+            index,
             strings,
         })
     }
@@ -47,21 +47,21 @@ impl<'a> Iterator for Entries<'a> {
     type Item = Entry<'a>;
 
     fn next(&mut self) -> Option<Entry<'a>> {
-        self.places.next().and_then(|place| self.entry(place))
+        self.indexes.next().and_then(|index| self.entry(index))
     }
 
     fn size_hint(&self) -> (usize, Option<usize>) {
-        self.places.size_hint()
+        self.indexes.size_hint()
     }
 
     fn nth(&mut self, n: usize) -> Option<Entry<'a>> {
-        self.places.nth(n).and_then(|place| self.entry(place))
+        self.indexes.nth(n).and_then(|index| self.entry(index))
     }
 }
 
 impl DoubleEndedIterator for Entries<'_> {
     fn next_back(&mut self) -> Option<Self::Item> {
-        self.places.next_back().and_then(|place| self.entry(place))
+        self.indexes.next_back().and_then(|index| self.entry(index))
     }
 }
 
@@ -100,7 +100,7 @@ impl fmt::Debug for Entries<'_> {
 #[derive(Clone, Copy)]
 pub struct Entry<'a> {
     catalogue: &'a sys::Catalogue,
-    place: usize,
+    index: usize,
     strings: sys::EntryStrings<'a>,
 }
 
@@ -154,8 +154,8 @@ impl<'a> Entry<'a> {
     pub fn forms(&self) -> Forms<'a> {
         Forms {
             catalogue: self.catalogue,
-            entry: self.place,
-            places: 0..self.strings.forms,
+            entry: self.index,
+            indexes: 0..self.strings.forms,
         }
     }
 }
@@ -185,12 +185,12 @@ impl fmt::Debug for Entry<'_> {
 pub struct Forms<'a> {
     catalogue: &'a sys::Catalogue,
     entry: usize,
-    places: Range<usize>,
+    indexes: Range<usize>,
 }
 
 impl<'a> Forms<'a> {
-    fn form(&self, place: usize) -> Option<&'a str> {
-        self.catalogue.form_at(self.entry, place)
+    fn form(&self, index: usize) -> Option<&'a str> {
+        self.catalogue.form_at(self.entry, index)
     }
 }
 
@@ -198,17 +198,17 @@ impl<'a> Iterator for Forms<'a> {
     type Item = &'a str;
 
     fn next(&mut self) -> Option<&'a str> {
-        self.places.next().and_then(|place| self.form(place))
+        self.indexes.next().and_then(|index| self.form(index))
     }
 
     fn size_hint(&self) -> (usize, Option<usize>) {
-        self.places.size_hint()
+        self.indexes.size_hint()
     }
 }
 
 impl DoubleEndedIterator for Forms<'_> {
     fn next_back(&mut self) -> Option<Self::Item> {
-        self.places.next_back().and_then(|place| self.form(place))
+        self.indexes.next_back().and_then(|index| self.form(index))
     }
 }
 

@@ -261,7 +261,7 @@ pub const fn placeholders(message: &str, names: &[&str], optional: &str) -> u64 
     found
 }
 
-/// The place of the brace that ends the name at `start`.
+/// The index of the brace that ends the name at `start`.
 const fn name_end(bytes: &[u8], start: usize) -> usize {
     let mut end = start;
     while end < bytes.len() && (bytes[end] == b'_' || bytes[end].is_ascii_alphanumeric()) {
@@ -416,7 +416,7 @@ fn report(message: &str, translation: &str) {
     {
         let mut reported = REPORTED.lock().unwrap_or_else(|it| it.into_inner());
         match reported.binary_search(&hash) {
-            Err(place) if reported.len() < MOST_REPORTS => reported.insert(place, hash),
+            Err(index) if reported.len() < MOST_REPORTS => reported.insert(index, hash),
             _ => return,
         }
     }

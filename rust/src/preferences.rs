@@ -368,12 +368,12 @@ fn candidates(tag: &str) -> Vec<String> {
     let language = tag.split('-').next().unwrap_or("");
     if written_script(tag).is_none() && script_of(tag).is_some() {
         let written = shorter(&with_script(tag)).into_iter().filter(|it| it != language);
-        let place = if script_of(tag) == script_of(language) {
+        let index = if script_of(tag) == script_of(language) {
             found.len()
         } else {
             found.len() - 1
         };
-        found.splice(place..place, written);
+        found.splice(index..index, written);
     }
     found
 }

@@ -154,8 +154,8 @@ unsafe fn answers<'a>(
     let mut answers = Vec::with_capacity(questions.len());
     let (mut block, mut found) = ([NONE; BLOCK], [NO_TEXT; BLOCK]);
     for some in questions.chunks(BLOCK) {
-        for (place, question) in block.iter_mut().zip(some) {
-            *place = asked(question);
+        for (slot, question) in block.iter_mut().zip(some) {
+            *slot = asked(question);
         }
         call(block.as_ptr(), some.len(), found.as_mut_ptr());
         // SAFETY: what this function asks for.
@@ -253,15 +253,15 @@ impl Catalogue {
         unsafe { kob_count(self.0.as_ptr()) }
     }
 
-    pub fn entry_at(&self, place: usize) -> Option<EntryStrings<'_>> {
+    pub fn entry_at(&self, index: usize) -> Option<EntryStrings<'_>> {
         let mut entry = kob_entry {
             context: NO_TEXT,
             msgid: NO_TEXT,
             plural: NO_TEXT,
             forms: 0,
         };
-        // SAFETY: `self` keeps the catalogue alive, any place may be asked for, and `entry` may be written to.
-        if unsafe { kob_entry_at(self.0.as_ptr(), place, &mut entry) } == 0 {
+        // SAFETY: `self` keeps the catalogue alive, any index may be asked for, and `entry` may be written to.
+        if unsafe { kob_entry_at(self.0.as_ptr(), index, &mut entry) } == 0 {
             return None;
         }
         // SAFETY: the texts belong to the catalogue, which the result borrows.
@@ -274,9 +274,9 @@ impl Catalogue {
         })
     }
 
-    pub fn form_at(&self, place: usize, form: usize) -> Option<&str> {
-        // SAFETY: `self` keeps the catalogue alive, and any two places may be asked for.
-        let found = unsafe { kob_form_at(self.0.as_ptr(), place, form) };
+    pub fn form_at(&self, index: usize, form: usize) -> Option<&str> {
+        // SAFETY: `self` keeps the catalogue alive, and any two indexes may be asked for.
+        let found = unsafe { kob_form_at(self.0.as_ptr(), index, form) };
         // SAFETY: the text belongs to the catalogue, which the result borrows.
         unsafe { str_of(found) }
     }
@@ -578,7 +578,7 @@ impl<'a> Snapshot<'a> {
         unsafe { find_in(self.set, names, question) }
     }
 
-    /// A list in place of the snapshot. A list isn't Send, so no other thread uses the reader until it is gone.
+    /// A list in index of the snapshot. A list isn't Send, so no other thread uses the reader until it is gone.
     #[inline]
     pub fn into_languages(self, names: [&'a str; 2]) -> Languages<'a> {
         // SAFETY: the header: the set and its answers are valid until its reader's next entry or end, and neither comes

@@ -50,11 +50,11 @@ static void refuses_strings(struct string o, struct string t, enum kob_fault fau
 }
 
 /* The bytes of one entry, with one word or byte of the file changed. */
-static void refuses_changed(size_t place, uint32_t word, enum kob_fault fault) {
+static void refuses_changed(size_t offset, uint32_t word, enum kob_fault fault) {
     const struct string o = { "a", 1 }, t = { "b", 1 };
     size_t len;
     unsigned char *file = mo_of(&o, &t, 1, &len);
-    put(file + place, word);
+    put(file + offset, word);
     refuses_mo(file, len, fault);
     free(file);
 }

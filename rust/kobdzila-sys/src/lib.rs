@@ -222,8 +222,8 @@ extern "C" {
         answers: *mut kob_text,
     );
     pub fn kob_count(catalogue: *const kob_catalogue) -> usize;
-    pub fn kob_entry_at(catalogue: *const kob_catalogue, place: usize, entry: *mut kob_entry) -> c_int;
-    pub fn kob_form_at(catalogue: *const kob_catalogue, place: usize, form: usize) -> kob_text;
+    pub fn kob_entry_at(catalogue: *const kob_catalogue, index: usize, entry: *mut kob_entry) -> c_int;
+    pub fn kob_form_at(catalogue: *const kob_catalogue, index: usize, form: usize) -> kob_text;
     pub fn kob_statistics(catalogue: *const kob_catalogue, counts: *mut kob_counts);
     pub fn kob_mo_file(catalogue: *const kob_catalogue) -> kob_text;
     pub fn kob_set_new() -> *mut kob_set;

@@ -226,10 +226,10 @@ pub unsafe fn kob_count(catalogue: *const kob_catalogue) -> usize {
     unsafe { &*catalogue.cast::<Catalogue>() }.entries.len()
 }
 
-pub unsafe fn kob_entry_at(catalogue: *const kob_catalogue, place: usize, entry: *mut kob_entry) -> c_int {
+pub unsafe fn kob_entry_at(catalogue: *const kob_catalogue, index: usize, entry: *mut kob_entry) -> c_int {
     // SAFETY: the catalogue is alive.
     let entries = unsafe { &(*catalogue.cast::<Catalogue>()).entries };
-    let found = match entries.get(place) {
+    let found = match entries.get(index) {
         Some(found) => found,
         None => return 0,
     };
@@ -245,10 +245,10 @@ pub unsafe fn kob_entry_at(catalogue: *const kob_catalogue, place: usize, entry:
     1
 }
 
-pub unsafe fn kob_form_at(catalogue: *const kob_catalogue, place: usize, form: usize) -> kob_text {
+pub unsafe fn kob_form_at(catalogue: *const kob_catalogue, index: usize, form: usize) -> kob_text {
     // SAFETY: the catalogue is alive.
     let entries = unsafe { &(*catalogue.cast::<Catalogue>()).entries };
-    text_of(entries.get(place).and_then(|it| it.forms.get(form)).map(|it| &**it))
+    text_of(entries.get(index).and_then(|it| it.forms.get(form)).map(|it| &**it))
 }
 
 pub unsafe fn kob_mo_file(catalogue: *const kob_catalogue) -> kob_text {
