@@ -218,7 +218,7 @@ class CacheTest(LogCase):
         cache = _cache.Cache(self.folder, "m")
         found = cache.read()
         cache.close()
-        return found and found.place.version
+        return found and found.position.version
 
     def test_a_restart_while_the_database_is_away(self) -> None:
         self.log.publish(loads(1))
@@ -313,13 +313,13 @@ class CacheTest(LogCase):
         made = [Played(f"d{at}", "fr", os.urandom(at), bytes(32)) for at in range(50)]
         made = [it._replace(sum=hashlib.sha256(it.mo).digest()) for it in made]
         cache.keep(made)
-        cache.write(_cache.Place("e", 50, b"h"), ["p"])
+        cache.write(_cache.Position("e", 50, b"h"), ["p"])
         self.assertEqual([it.name for it in self.folder.iterdir() if it.suffix == ".cache"], ["..%2Fa%20b.cache"])
         cache.keep(made[:1])
         cache._due = 0
-        cache.write(_cache.Place("e", 51, b"i"), ["p"])
+        cache.write(_cache.Position("e", 51, b"i"), ["p"])
         found = _cache.Cache(self.folder, "../a b").read()
-        self.assertEqual((found.place, found.past), (("e", 51, b"i"), ["p"]))
+        self.assertEqual((found.position, found.past), (("e", 51, b"i"), ["p"]))
         self.assertEqual(sorted(found.loads), sorted(made))
         self.assertLess(abs(time.time() - found.written), 60)
         cache.close()

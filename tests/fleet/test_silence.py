@@ -47,8 +47,8 @@ class HostsTest(LogCase):
         with follower:
             self.assertEqual(follower.wait_for(version, 100), version)
         # (the host is known to be silent, so the next connection doesn't pay for it)
-        places = _connect.places_of(_connect.parameters(address), -1, math.inf, 5.0, [])
-        self.assertEqual([it.port for it in places], [str(servers.shared().port), str(port)])
+        found = _connect.servers_of(_connect.parameters(address), -1, math.inf, 5.0, [])
+        self.assertEqual([it.port for it in found], [str(servers.shared().port), str(port)])
 
     def test_a_host_that_accepts_and_says_nothing(self) -> None:
         self.check(proxies.silent_port())
@@ -121,7 +121,7 @@ class HostsTest(LogCase):
                 self.assertEqual(log.publish(loads(1)), 2)
             with Log(f"host=127.0.0.1 {secure}") as log, self.assertRaisesRegex(psycopg.OperationalError, "certificate"):
                 log.status()
-            self.assertTrue(_connect.is_there(_connect.Place("localhost", "127.0.0.1", str(server.port)), 10, -1))
+            self.assertTrue(_connect.is_there(_connect.Server("localhost", "127.0.0.1", str(server.port)), 10, -1))
 
     def test_the_server_watches_too(self) -> None:
         with _connect.connect(servers.shared().address, "any") as connection:

@@ -15,7 +15,7 @@ if TYPE_CHECKING:
     from ._metrics import metrics
     from ._player import Difference, StoreFailed
     from ._queries import Damaged
-    from ._store import Behind, SessionTexts, Snapshot, Store
+    from ._store import Behind, FollowerSnapshot, FollowerStore, SessionTexts
     from ._version import Version
     from ._web import ASGIMiddleware, WSGIMiddleware
 
@@ -26,6 +26,8 @@ __all__ = [
     "Damaged",
     "Difference",
     "Follower",
+    "FollowerSnapshot",
+    "FollowerStore",
     "Health",
     "Load",
     "Log",
@@ -35,16 +37,14 @@ __all__ = [
     "Restored",
     "Row",
     "SessionTexts",
-    "Snapshot",
     "Status",
-    "Store",
     "StoreFailed",
     "Unanswered",
     "Version",
     "WSGIMiddleware",
     "metrics",
 ]
-PLACES = {
+_LATER = {
     "_cache": ("CacheRefused",),
     "_follow": ("Follower",),
     "_health": ("Health",),
@@ -53,7 +53,7 @@ PLACES = {
     "_metrics": ("metrics",),
     "_player": ("Difference", "StoreFailed"),
     "_queries": ("Damaged",),
-    "_store": ("Behind", "SessionTexts", "Snapshot", "Store"),
+    "_store": ("Behind", "FollowerSnapshot", "FollowerStore", "SessionTexts"),
     "_version": ("Version",),
     "_web": ("ASGIMiddleware", "WSGIMiddleware"),
 }
@@ -61,7 +61,7 @@ PLACES = {
 
 def __getattr__(name: str) -> Any:
     """Import a name when it is first used, so that `kob-fleet --help` works without psycopg."""
-    for place, names in PLACES.items():
+    for module, names in _LATER.items():
         if name in names:
-            return getattr(import_module(f"{__name__}.{place}"), name)
+            return getattr(import_module(f"{__name__}.{module}"), name)
     raise AttributeError(f"module {__name__!r} has no attribute {name!r}")

@@ -31,7 +31,7 @@ class CacheRefused(Exception):
     """The cache can't be used. The machine then waits for the log."""
 
 
-class Place(NamedTuple):
+class Position(NamedTuple):
     """Where in a log a machine is: the epoch, the version, and the history up to it."""
 
     epoch: str
@@ -40,10 +40,10 @@ class Place(NamedTuple):
 
 
 class Cached(NamedTuple):
-    """The contents of a cache. `past` are the epochs before the place's own, and `written` is a time by the machine's
+    """The contents of a cache. `past` are the epochs before the position's own, and `written` is a time by the machine's
     clock."""
 
-    place: Place
+    position: Position
     past: Sequence[str]
     written: float
     loads: Sequence[Played]
@@ -106,8 +106,8 @@ class Cache:
                 loads.append(Played(domain, locale, data, wanted))
                 entries[domain, locale] = Entry(offset, length, wanted)
                 offset += length
-        place = Place(head["epoch"], head["version"], bytes.fromhex(head["history"]))
-        return Cached(place, head["past"], head["written"], loads), entries
+        position = Position(head["epoch"], head["version"], bytes.fromhex(head["history"]))
+        return Cached(position, head["past"], head["written"], loads), entries
 
     def keep(self, loads: Iterable[Played], all_of_them: bool = False) -> None:
         """Remember what is new on the machine, for the next write."""
@@ -137,7 +137,7 @@ class Cache:
         """The seconds until there is something to write, or None."""
         return max(0.0, self._due - time.monotonic()) if self._is_new else None
 
-    def write(self, place: Place, past: Sequence[str]) -> None:
+    def write(self, position: Position, past: Sequence[str]) -> None:
         """Write what was kept, if it is time. OSError if that fails."""
         if not self.is_whole or self.seconds_left() != 0.0:
             return
@@ -146,7 +146,7 @@ class Cache:
         new = self.path.with_suffix(".new")
         handle = os.open(new, os.O_RDWR | os.O_CREAT | os.O_TRUNC | os.O_CLOEXEC, 0o600)
         try:
-            entries = self._fill(handle, place, past, sorted(self._entries.keys() | self._pending.keys()))
+            entries = self._fill(handle, position, past, sorted(self._entries.keys() | self._pending.keys()))
             os.fsync(handle)
             os.replace(new, self.path)
         except BaseException:
@@ -159,14 +159,14 @@ class Cache:
         done = time.monotonic()
         self._due = done + min(LONGEST, SHARE * (done - begun))
 
-    def _fill(self, handle: int, place: Place, past: Sequence[str], pairs: Sequence[Pair]) -> dict[Pair, Entry]:
+    def _fill(self, handle: int, position: Position, past: Sequence[str], pairs: Sequence[Pair]) -> dict[Pair, Entry]:
         """Write a complete cache, and return where its files are."""
         parts = []
         for pair in pairs:
             new = self._pending.get(pair)
             length, total = (len(new.mo), new.sum) if new else self._entries[pair][1:]
             parts.append((*pair, total.hex(), length))
-        text = json.dumps({"epoch": place.epoch, "version": place.version, "history": place.history.hex(),
+        text = json.dumps({"epoch": position.epoch, "version": position.version, "history": position.history.hex(),
                            "past": list(past), "written": time.time(), "entries": parts}).encode() + b"\n"
         head = FORM + text + hashlib.sha256(FORM + text).hexdigest().encode() + b"\n"
         written(handle, head)

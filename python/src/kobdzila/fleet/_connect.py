@@ -51,7 +51,7 @@ class Interrupted(psycopg.OperationalError):
     """The wait was interrupted because its thread is to stop."""
 
 
-class Place(NamedTuple):
+class Server(NamedTuple):
     """A server: its name or the folder of its socket, its address if known, and its port."""
 
     host: str
@@ -72,7 +72,7 @@ class Watched(psycopg.Connection[Any]):
     end = math.inf
     limit = math.inf
     wake = -1
-    place = Place("", "", "")
+    server = Server("", "", "")
     is_standby = is_read_only = is_pooled = False
     is_unreplicated = False  # the server has ended a wait for its standby
 
@@ -102,12 +102,12 @@ class Watched(psycopg.Connection[Any]):
                 self.wake = -1
             elif now >= end:
                 late = "in time" if now >= self.end else f"in {now - begun:.1f} s"
-                raise Silent(f"{self.place} hasn't answered {late}")
+                raise Silent(f"{self.server} hasn't answered {late}")
             elif now >= probe_at:
                 within = min(PROBE_WITHIN, max(0.0, end - now))
-                if not is_there(self.place, within, self.wake) and time.monotonic() < end:
-                    note_silence(self.place)
-                    raise Silent(f"{self.place} says nothing")
+                if not is_there(self.server, within, self.wake) and time.monotonic() < end:
+                    note_silence(self.server)
+                    raise Silent(f"{self.server} says nothing")
                 probe_at = time.monotonic() + PROBE_AFTER
 
 
@@ -138,13 +138,13 @@ def connect(
     within = patience * float(given.pop("connect_timeout", CONNECT_TIMEOUT)) or math.inf
     failures: list[str] = []
     for it in ("standby", "any") if wanted == "prefer-standby" else (wanted,):
-        for place in places_of(given, wake, end, within, failures):
+        for server in servers_of(given, wake, end, within, failures):
             try:
-                return session(place, given, it, wake, min(end, time.monotonic() + within))
+                return session(server, given, it, wake, min(end, time.monotonic() + within))
             except Interrupted:
                 raise
             except psycopg.Error as why:
-                failures.append(f"{place}: {str(why).strip() or type(why).__name__}")
+                failures.append(f"{server}: {str(why).strip() or type(why).__name__}")
             if time.monotonic() >= end:
                 break
     raise psycopg.OperationalError("; ".join(dict.fromkeys(failures)) or "no server is named")
@@ -157,27 +157,27 @@ def parameters(database: str) -> dict[str, str]:
     return {**USUAL, **({} if "service" in given else named), **given}
 
 
-def places_of(given: dict[str, str], wake: int, end: float, within: float, failures: list[str]) -> Iterator[Place]:
+def servers_of(given: dict[str, str], wake: int, end: float, within: float, failures: list[str]) -> Iterator[Server]:
     """Yield the servers that a connection string names, with each of their addresses; those that didn't answer come
     last."""
     hosts, addresses, ports = (given.get(name, "").split(",") for name in ("host", "hostaddr", "port"))
     count = max(len(hosts), len(addresses))
     if "service" in given or any(len(it) not in (1, count) for it in (hosts, addresses, ports)):
-        yield Place(given.get("host", ""), given.get("hostaddr", ""), given.get("port", ""))  # (libpq says what is wrong)
+        yield Server(given.get("host", ""), given.get("hostaddr", ""), given.get("port", ""))  # (libpq says what is wrong)
         return
     hosts, addresses, ports = (it * count if len(it) == 1 else it for it in (hosts, addresses, ports))
-    named = [Place(*it) for it in zip(hosts, addresses, ports)]
+    named = [Server(*it) for it in zip(hosts, addresses, ports)]
     if given.get("load_balance_hosts") == "random":
         random.shuffle(named)
     named.sort(key=lambda it: time.monotonic() - silent.get((it.host or it.address, it.port), -math.inf) < SILENT_FOR)
-    for place in named:
+    for server in named:
         try:
-            found = [place.address] if place.address else resolved(
-                place.host, wake, min(end, time.monotonic() + within))
+            found = [server.address] if server.address else resolved(
+                server.host, wake, min(end, time.monotonic() + within))
         except OSError as why:
-            failures.append(f"{place}: {why}")
+            failures.append(f"{server}: {why}")
             continue
-        yield from (place._replace(address=address) for address in found)
+        yield from (server._replace(address=address) for address in found)
 
 
 def resolved(host: str, wake: int, end: float) -> list[str]:
@@ -211,16 +211,16 @@ def resolved(host: str, wake: int, end: float) -> list[str]:
     return answer
 
 
-def session(place: Place, given: dict[str, str], attributes: str, wake: int, end: float) -> Watched:
+def session(server: Server, given: dict[str, str], attributes: str, wake: int, end: float) -> Watched:
     """Connect to one server, and check that its session has the attributes."""
-    own = {**given, "host": place.host, "hostaddr": place.address, "port": place.port, "target_session_attrs": "any"}
+    own = {**given, "host": server.host, "hostaddr": server.address, "port": server.port, "target_session_attrs": "any"}
     own.pop("load_balance_hosts", None)
     text = conninfo.make_conninfo("", **{name: value for name, value in own.items() if value})
-    connection = Watched(started(place, text, wake, end))
+    connection = Watched(started(server, text, wake, end))
     try:
         connection.autocommit = True
         connection.prepare_threshold = None  # (a pooler gives each statement another session)
-        connection.place, connection.wake, connection.end = place, wake, end
+        connection.server, connection.wake, connection.end = server, wake, end
         row = connection.execute(SESSION).fetchone()
         assert row is not None
         connection.is_standby, connection.is_read_only = row[0], row[1]
@@ -232,11 +232,11 @@ def session(place: Place, given: dict[str, str], attributes: str, wake: int, end
         connection.close()
         raise
     connection.end = math.inf
-    silent.pop((place.host or place.address, place.port), None)
+    silent.pop((server.host or server.address, server.port), None)
     return connection
 
 
-def started(place: Place, text: str, wake: int, end: float) -> pq.abc.PGconn:
+def started(server: Server, text: str, wake: int, end: float) -> pq.abc.PGconn:
     """Return a connection of libpq that is ready."""
     made, begun = pq.PGconn.connect_start(text.encode()), time.monotonic()
     try:
@@ -252,7 +252,7 @@ def started(place: Place, text: str, wake: int, end: float) -> pq.abc.PGconn:
             if is_woken:
                 raise Interrupted("the wait was ended")
             if not ready:
-                note_silence(place)
+                note_silence(server)
                 raise Silent(f"no answer in {time.monotonic() - begun:.1f} s")
     except BaseException:
         made.finish()
@@ -274,15 +274,15 @@ def set_for_session(connection: Watched, **settings: str) -> None:
     connection.execute(f"select {calls}".encode(), [word for setting in settings.items() for word in setting])
 
 
-def note_silence(place: Place) -> None:
-    silent[place.host or place.address, place.port] = time.monotonic()
+def note_silence(server: Server) -> None:
+    silent[server.host or server.address, server.port] = time.monotonic()
 
 
-def is_there(place: Place, within: float, wake: int) -> bool:
+def is_there(server: Server, within: float, wake: int) -> bool:
     """Whether a server responds when it is asked whether it supports TLS. True if the wait was ended before that."""
     end = time.monotonic() + within
     try:
-        with begun_to(place, within) as made:
+        with begun_to(server, within) as made:
             for wanted in (2, 1):  # (it is connected, and has answered)
                 ready, is_woken = polled(made.fileno(), wanted, wake, max(0.0, end - time.monotonic()))
                 if is_woken or not ready:
@@ -294,17 +294,17 @@ def is_there(place: Place, within: float, wake: int) -> bool:
         return False
 
 
-def begun_to(place: Place, within: float) -> socket.socket:
+def begun_to(server: Server, within: float) -> socket.socket:
     """Return a socket that doesn't block, and has begun to connect to a server."""
-    port = place.port or "5432"
-    if place.address:
+    port = server.port or "5432"
+    if server.address:
         family, kind, _, _, address = socket.getaddrinfo(
-            place.address, int(port), type=socket.SOCK_STREAM, flags=socket.AI_NUMERICHOST)[0]
+            server.address, int(port), type=socket.SOCK_STREAM, flags=socket.AI_NUMERICHOST)[0]
         made = socket.socket(family, kind)
         made.setblocking(False)
         made.connect_ex(address)
         return made
-    path = place.host or "/var/run/postgresql"
+    path = server.host or "/var/run/postgresql"
     made = socket.socket(socket.AF_UNIX)
     try:  # (where its queue is full, only a call that blocks waits for room)
         made.settimeout(max(0.01, within))

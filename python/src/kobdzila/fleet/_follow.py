@@ -25,7 +25,7 @@ from ._layout import NO_LOG, NoLog, check_layout, layout_of
 from ._player import LOOK_WITHIN, Difference, Lagging, Player, StoreFailed
 from ._queries import Damaged, prepare
 from ._report import Report, Reporter, abandon
-from ._store import Behind, SessionTexts, Snapshot, Store
+from ._store import Behind, FollowerSnapshot, FollowerStore, SessionTexts
 from ._version import Version, version_of
 
 if TYPE_CHECKING:
@@ -45,7 +45,7 @@ FORK_WITHIN = 10.0  # seconds that a fork waits for a store that is being change
 class Follower(Closing):
     """Plays the log's publishes into a store, in a thread of its own.
 
-    `store` is a kobdzila.Session or another Store. Nothing else may load into it after the start; earlier loads stay
+    `store` is a kobdzila.Session or another FollowerStore. Nothing else may load into it after the start; earlier loads stay
     below those of the log. `database` is a libpq connection string, as for Log. `machine` names this follower in
     `kob-fleet status`; the default is the name of the host. Several followers may have the same name.
 
@@ -65,7 +65,7 @@ class Follower(Closing):
 
     def __init__(
         self,
-        store: Store,
+        store: FollowerStore,
         database: str = "",
         machine: str | None = None,
         *,
@@ -181,7 +181,7 @@ class Follower(Closing):
                     raise Behind(self.version, wanted, self._trouble)
         return self.version
 
-    def snapshot(self, *, at_least: int | str = 0, within: float = 0.5, **options: Any) -> Snapshot:
+    def snapshot(self, *, at_least: int | str = 0, within: float = 0.5, **options: Any) -> FollowerSnapshot:
         """Return a context manager for look-ups in a version of at least `at_least`. Raise Behind after `within`
         seconds.
 
@@ -191,15 +191,15 @@ class Follower(Closing):
         take = getattr(self.store, "snapshot", None)
         is_older = self.is_older
         if take is not None:
-            return Snapshot(take(**options), self.log_version, is_older)
+            return FollowerSnapshot(take(**options), self.log_version, is_older)
         if isinstance(self.store, Session):
-            return Snapshot(SessionTexts(self.store, self.log_version, **options), self.log_version, is_older)
+            return FollowerSnapshot(SessionTexts(self.store, self.log_version, **options), self.log_version, is_older)
         raise TypeError(f"{type(self.store).__name__} has no snapshot")
 
-    def unjoined(self, **options: Any) -> Snapshot:
+    def unjoined(self, **options: Any) -> FollowerSnapshot:
         """Return look-ups in the store as it is, even if the machine hasn't joined and has only what it had before the
         start."""
-        return Snapshot(self.store.snapshot(**options), self.log_version, True)  # type: ignore[attr-defined]
+        return FollowerSnapshot(self.store.snapshot(**options), self.log_version, True)  # type: ignore[attr-defined]
 
     def is_past(self, epoch: str) -> bool:
         """Whether this is an earlier epoch of the log than the machine's."""
@@ -253,7 +253,7 @@ class Follower(Closing):
         try:
             yield connection
         except Silent:
-            note_silence(connection.place)
+            note_silence(connection.server)
             raise
         finally:
             if self._ending:

@@ -411,10 +411,10 @@ class Log(Closing):
                 row = connection.execute(
                     "select current_setting('synchronous_standby_names') from pg_stat_activity"
                     " where pid = %s and wait_event = 'SyncRep'", (process,)).fetchone()
-                place = connection.place
+                server = connection.server
         except psycopg.Error:
             return None
-        return row and (f"{place} waits for its synchronous standby (synchronous_standby_names = {row[0]!r}), which hasn't "
+        return row and (f"{server} waits for its synchronous standby (synchronous_standby_names = {row[0]!r}), which hasn't "
                         "answered: start that, or let the server not wait, by an empty name")
 
 

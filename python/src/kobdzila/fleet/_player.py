@@ -13,7 +13,7 @@ from concurrent.futures import ThreadPoolExecutor
 
 from .._catalogue import Catalogue
 from .._session import Session
-from ._cache import Cache, Pair, Place
+from ._cache import Cache, Pair, Position
 from ._connect import Watched
 from ._layout import check_layout
 from ._queries import (
@@ -30,7 +30,7 @@ from ._queries import (
     head_of,
     loads_of,
 )
-from ._store import Store
+from ._store import FollowerStore
 from ._version import Version
 
 MOST_LOADS = 256  # a machine that lacks more of the log takes the last loads, in one step
@@ -69,10 +69,10 @@ class Player:
     Only one thread plays. `playing` is held while the store changes.
     """
 
-    def __init__(self, store: Store, cache: Cache | None, go_over: bool) -> None:
+    def __init__(self, store: FollowerStore, cache: Cache | None, go_over: bool) -> None:
         self.store, self.cache, self.go_over = store, cache, go_over
-        self.place = Place("", 0, b"")
-        self.past: list[str] = []  # the log's epochs before that of the place
+        self.position = Position("", 0, b"")
+        self.past: list[str] = []  # the log's epochs before that of the position
         self.has_joined = False
         self.is_older = False  # it shows what the cache had, and hasn't met the log yet
         self.loads = 0
@@ -84,7 +84,7 @@ class Player:
 
     @property
     def version(self) -> Version:
-        return Version(self.place.version, self.place.epoch)
+        return Version(self.position.version, self.position.epoch)
 
     def log_version(self, version: int) -> Version:
         """Return the log's version for a version of the store."""
@@ -93,29 +93,29 @@ class Player:
 
     def shows(self, wanted: Version) -> bool:
         """Whether the machine shows this version or a later one, or is in a later epoch of the log."""
-        if wanted.epoch and wanted.epoch != self.place.epoch:
+        if wanted.epoch and wanted.epoch != self.position.epoch:
             return self.has_joined and wanted.epoch in self.past
-        return self.has_joined and self.place.version >= wanted
+        return self.has_joined and self.position.version >= wanted
 
     # --- a look at the log
 
     def is_met(self, connection: Watched) -> bool:
         """Whether the log's head is what this machine shows. The server must answer at once: this is the heartbeat."""
         connection.limit = BEAT_WITHIN
-        layout, epoch, newest, history = head_of(connection, self.place.version)
+        layout, epoch, newest, history = head_of(connection, self.position.version)
         check_layout(layout)
-        return (self.has_joined and not self.is_older and (epoch, newest) == self.place[:2]
-                and (newest == 0 or history == self.place.history))
+        return (self.has_joined and not self.is_older and (epoch, newest) == self.position[:2]
+                and (newest == 0 or history == self.position.history))
 
     def look(self, connection: Watched, is_standby: bool) -> bool:
         """Play the next publish, or more than one if this machine is far behind, and say whether there are more."""
         connection.limit = LOOK_WITHIN
-        if self.place.version == 0:
+        if self.position.version == 0:
             return self._jump(connection)
-        with contextlib.closing(asked(connection, "next", self.place.version, MOST_LOADS)) as rows:
+        with contextlib.closing(asked(connection, "next", self.position.version, MOST_LOADS)) as rows:
             own = Publish(*next(rows).head)
             check_layout(own.layout)
-            is_of_epoch = own.epoch == self.place.epoch
+            is_of_epoch = own.epoch == self.position.epoch
             if is_of_epoch:
                 self._check_own(own, is_standby)
                 first = next(rows, None)
@@ -133,13 +133,13 @@ class Player:
 
     def _check_own(self, own: Publish, is_standby: bool) -> None:
         """The log has the publish that this machine shows, after the same history."""
-        here = self.place.version
+        here = self.position.version
         if own.version != here:
             if is_standby and own.newest < here:
                 raise Lagging(f"the standby has version {own.newest}, and this machine shows {here}")
             raise Difference(here, own.newest, "the log has lost publishes that this machine shows; "
                              "kob-fleet restore begins a new epoch, which it can switch to")
-        if own.history != self.place.history:
+        if own.history != self.position.history:
             raise Difference(here, own.version, "the log has another history up to this version; "
                              "kob-fleet restore begins a new epoch, which it can switch to")
 
@@ -147,41 +147,41 @@ class Player:
         """The log has another epoch: continue in it if it has all that this machine shows, or switch to it."""
         epochs = epochs_of(connection)
         names = [epoch for epoch, _ in epochs]
-        if self.place.epoch in names[:-1]:
-            _, after = epochs[names.index(self.place.epoch) + 1]
-            if self.place.version <= after and self._is_own(own):
+        if self.position.epoch in names[:-1]:
+            _, after = epochs[names.index(self.position.epoch) + 1]
+            if self.position.version <= after and self._is_own(own):
                 self._set_epoch(names)
                 return True
         elif own.epoch in self.past:
             if is_standby:
-                raise Lagging(f"the standby has epoch {own.epoch}, and this machine shows {self.place.epoch}")
-            raise Difference(self.place.version, own.newest, f"the log was put back to its epoch {own.epoch}, before "
+                raise Lagging(f"the standby has epoch {own.epoch}, and this machine shows {self.position.epoch}")
+            raise Difference(self.position.version, own.newest, f"the log was put back to its epoch {own.epoch}, before "
                              "that of this machine: run kob-fleet restore first, which begins a new epoch")
-        elif is_standby and not self.is_older and own.newest < self.place.version:
-            raise Lagging(f"the standby has epoch {own.epoch}, and this machine shows {self.place.epoch}")
+        elif is_standby and not self.is_older and own.newest < self.position.version:
+            raise Lagging(f"the standby has epoch {own.epoch}, and this machine shows {self.position.epoch}")
         if not (self.go_over or self.is_older):
-            raise Difference(self.place.version, own.newest, f"this machine is ahead of the log's epoch {own.epoch}: restart "
+            raise Difference(self.position.version, own.newest, f"this machine is ahead of the log's epoch {own.epoch}: restart "
                         "it, or let it follow with --go-over")
         return self._jump(connection, anew=True)
 
     def _is_own(self, own: Publish) -> bool:
-        return (own.version, own.history) == (self.place.version, self.place.history)
+        return (own.version, own.history) == (self.position.version, self.position.history)
 
     def _set_epoch(self, names: Sequence[str]) -> None:
         """Continue in the newest epoch, with the same catalogues."""
         self.past, epoch = list(names[:-1]), names[-1]
         here = self.store.version
-        self._bases.append((here, self.place.version - here, epoch))
-        self.place, self.is_older = self.place._replace(epoch=epoch), False
+        self._bases.append((here, self.position.version - here, epoch))
+        self.position, self.is_older = self.position._replace(epoch=epoch), False
         if self.cache:
             self.cache.keep(())
 
     def _taken(self, publish: Publish, rows: Iterable[Found]) -> list[Played] | None:
         """Return the loads of the next publish, or None if this machine must take the last loads instead."""
-        if publish.newest - self.place.version > MOST_LOADS:
+        if publish.newest - self.position.version > MOST_LOADS:
             return None
         try:
-            return loads_of(publish, rows, self.place.version, self.place.history)
+            return loads_of(publish, rows, self.position.version, self.position.history)
         except Cut:
             return None
         except Damaged:
@@ -196,8 +196,8 @@ class Player:
         log lacks.
         """
         names = [epoch for epoch, _ in epochs_of(connection)]
-        head, played = self._last(connection, 0 if anew else self.place.version)
-        if names[-1:] != [head.epoch] or self.place.version and not anew and head.epoch != self.place.epoch:
+        head, played = self._last(connection, 0 if anew else self.position.version)
+        if names[-1:] != [head.epoch] or self.position.version and not anew and head.epoch != self.position.epoch:
             return True  # (the log was restored meanwhile)
         wanted = [it for it in played if self._shown.get((it.domain, it.locale)) != it.sum]
         if anew:
@@ -223,16 +223,16 @@ class Player:
         """Load and publish; the version that the store returns must be the log's."""
         with self.playing:
             before, base = self.store.version, self._bases[-1][1]
-            if before + base != self.place.version:
-                raise Difference(before + base, self.place.version, "the store has loads that aren't of the log", True)
+            if before + base != self.position.version:
+                raise Difference(before + base, self.position.version, "the store has loads that aren't of the log", True)
             if jumps:
                 base = version - (before + len(loads))
-                self._bases.append((before + len(loads), base, self.place.epoch if epoch is None else epoch))
+                self._bases.append((before + len(loads), base, self.position.epoch if epoch is None else epoch))
             answered = self._load(loads, version) if loads else before
             if answered + base != version:
                 raise Difference(answered + base, version, "the store answers another version", True)
             self._shown.update(((it.domain, it.locale), it.sum) for it in loads)
-            self.place = Place(self.place.epoch if epoch is None else epoch, version, history)
+            self.position = Position(self.position.epoch if epoch is None else epoch, version, history)
             self.has_joined, self.is_older = True, False
             self.loads += len(loads)
         if self.cache:
@@ -276,7 +276,7 @@ class Player:
             self.cache.forked()
         if isinstance(self.store, Session):
             self.store._start()
-            self.place, self.past = Place("", 0, b""), []
+            self.position, self.past = Position("", 0, b""), []
             self.has_joined = self.is_older = False
             self._shown, self._bases = {}, [(0, 0, "")]
 
@@ -300,7 +300,7 @@ class Player:
             return None
         cache, self.cache = self.cache, None  # (which has all of this)
         try:
-            self.show(cached.loads, cached.place.version, cached.place.history, epoch=cached.place.epoch, jumps=True)
+            self.show(cached.loads, cached.position.version, cached.position.history, epoch=cached.position.epoch, jumps=True)
         finally:
             self.cache = cache
         self.past, self.is_older = list(cached.past), True
@@ -314,9 +314,9 @@ class Player:
             # (the process that wrote it has ended)
             self._fill_at = time.monotonic() + FILL_EACH
             head, played = self._last(connection, 0)
-            if (head.epoch, head.version, head.history) == self.place:
+            if (head.epoch, head.version, head.history) == self.position:
                 self.cache.keep(played, all_of_them=True)
-        self.cache.write(self.place, self.past)
+        self.cache.write(self.position, self.past)
 
 
 def emptied(pairs: Iterable[Pair]) -> list[Played]:

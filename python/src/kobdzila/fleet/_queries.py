@@ -149,8 +149,8 @@ def text_of(connection: Watched, query: str, *values: int) -> bytes:
     if not connection.is_pooled:
         return f"execute kobdzila_{query}({', '.join(map(str, values))})".encode()
     text = {"head": HEAD, "next": NEXT, "last": LAST}[query].partition(" as\n")[2]
-    for place, value in enumerate(values, 1):
-        text = text.replace(f"${place}", f"({value}::bigint)")
+    for number, value in enumerate(values, 1):
+        text = text.replace(f"${number}", f"({value}::bigint)")
     return text.encode()
 
 

@@ -3,7 +3,6 @@ from __future__ import annotations
 
 from collections.abc import Callable
 from contextlib import AbstractContextManager
-from types import TracebackType
 from typing import TYPE_CHECKING, Any, Protocol
 
 from .._closing import Closing
@@ -14,7 +13,7 @@ if TYPE_CHECKING:
     from typing_extensions import Self
 
 
-class Store(Protocol):
+class FollowerStore(Protocol):
     """A store that a Follower can feed: it shows its loads all at once, and counts them.
 
     kobdzila.Session is one. If a store also has a method `snapshot`, readers of the follower get its snapshots.
@@ -50,7 +49,7 @@ class Behind(Exception):
         return f"version {self.version.token}, and {self.at_least.token} was asked for{why}"
 
 
-class Snapshot:
+class FollowerSnapshot:
     """A snapshot of the follower's store, with its methods.
 
     `version` is the log's. `is_older` says that the translations are those of the machine's cache, because the log
@@ -77,10 +76,8 @@ class Snapshot:
         self._texts = self._made.__enter__()
         return self
 
-    def __exit__(
-        self, kind: type[BaseException] | None, fault: BaseException | None, trace: TracebackType | None
-    ) -> None:
-        self._made.__exit__(kind, fault, trace)
+    def __exit__(self, *why: Any) -> None:
+        self._made.__exit__(*why)
 
 
 class SessionTexts(Closing, Calls):
@@ -91,7 +88,7 @@ class SessionTexts(Closing, Calls):
 
     def __init__(self, session: Session, log_version: Callable[[int], Version]) -> None:
         self._session, self._log_version = session, log_version
-        self.version = session.version  # (the session's; Snapshot turns it into the log's)
+        self.version = session.version  # (the session's; FollowerSnapshot turns it into the log's)
 
     def close(self) -> None:
         """Do nothing: the session belongs to the follower."""

@@ -8,10 +8,10 @@ import threading
 from collections.abc import Awaitable, Callable, Iterable, Iterator, MutableMapping
 from http import HTTPStatus
 from http.cookies import CookieError, SimpleCookie
-from typing import Any
+from typing import Any, Generic, TypeVar
 
 from ._follow import Follower
-from ._store import Behind, Snapshot
+from ._store import Behind, FollowerSnapshot
 from ._version import Version
 
 COOKIE = "kobdzila_version"
@@ -30,9 +30,10 @@ Message = MutableMapping[str, Any]
 Receive = Callable[[], Awaitable[Message]]
 Send = Callable[[Message], Awaitable[None]]
 ASGIApplication = Callable[[Message, Receive, Send], Awaitable[None]]
+App = TypeVar("App")
 
 
-class Middleware:
+class Middleware(Generic[App]):
     """The common part of both kinds.
 
     A request's version is that of its header `Kobdzila-Version` or its cookie, whichever is greater. The request waits
@@ -50,10 +51,11 @@ class Middleware:
     """
 
     def __init__(
-        self, follower: Follower, within: float, serve_older: bool, cookie: str, domain: str | None, health: str | None
+        self, app: App, follower: Follower, domain: str | None = None, *, within: float = 0.5,
+        serve_older: bool = False, cookie: str = COOKIE, health: str | None = None,
     ) -> None:
-        self.follower, self.within, self.serve_older, self.cookie = follower, within, serve_older, cookie
-        self.domain, self.health = domain, health
+        self.app, self.follower, self.domain, self.health = app, follower, domain, health
+        self.within, self.serve_older, self.cookie = within, serve_older, cookie
         take = getattr(follower.store, "snapshot", None)
         self._takes_languages = take is not None and "languages" in inspect.signature(take).parameters
         self._waiting = threading.BoundedSemaphore(MOST_WAITING)
@@ -80,7 +82,7 @@ class Middleware:
             return False
         return True
 
-    def snapshot(self, at_least: Version, accepted: str) -> Snapshot | None:
+    def snapshot(self, at_least: Version, accepted: str) -> FollowerSnapshot | None:
         """Return a snapshot, or None if the request must be answered with 503. `accepted` is its Accept-Language."""
         if not self._waiting.acquire(blocking=False):
             return self._taken(at_least, 0, accepted)
@@ -89,14 +91,14 @@ class Middleware:
         finally:
             self._waiting.release()
 
-    def _taken(self, at_least: Version, within: float, accepted: str) -> Snapshot | None:
+    def _taken(self, at_least: Version, within: float, accepted: str) -> FollowerSnapshot | None:
         options = {"languages": accepted, "domain": self.domain} if self._takes_languages else {}
         for version in [at_least, Version()] if self.serve_older else [at_least]:
             with contextlib.suppress(Behind):
                 return self.follower.snapshot(at_least=version, within=within, **options)
         return self.follower.unjoined(**options) if self.serve_older and self.follower.store.version else None
 
-    def headers(self, snapshot: Snapshot, written: Iterable[tuple[str, str]]) -> list[tuple[str, str]]:
+    def headers(self, snapshot: FollowerSnapshot, written: Iterable[tuple[str, str]]) -> list[tuple[str, str]]:
         """Return the headers of a response for which the application has set these."""
         versions, others, varies = [snapshot.version], [], [*self._varies]
         for name, value in written:
@@ -133,18 +135,11 @@ def joined(names: Iterable[str]) -> str:
     return "*" if "*" in kept else ", ".join(reversed(kept.values()))
 
 
-class WSGIMiddleware(Middleware):
-    """Puts a Snapshot into the environment of each request, as `kobdzila.snapshot`.
+class WSGIMiddleware(Middleware[Application]):
+    """Puts a FollowerSnapshot into the environment of each request, as `kobdzila.snapshot`.
 
         application = WSGIMiddleware(application, follower)
     """
-
-    def __init__(
-        self, application: Application, follower: Follower, domain: str | None = None, *, within: float = 0.5,
-        serve_older: bool = False, cookie: str = COOKIE, health: str | None = None,
-    ) -> None:
-        super().__init__(follower, within, serve_older, cookie, domain, health)
-        self.application = application
 
     def __call__(self, environ: Environment, start_response: StartResponse) -> Iterable[bytes]:
         path = environ.get("PATH_INFO", "")
@@ -156,13 +151,13 @@ class WSGIMiddleware(Middleware):
             return [body]
         return self._answered(made, environ, start_response)
 
-    def _answered(self, made: Snapshot, environ: Environment, start_response: StartResponse) -> Iterator[bytes]:
+    def _answered(self, made: FollowerSnapshot, environ: Environment, start_response: StartResponse) -> Iterator[bytes]:
         with made as snapshot:
             def start(status: str, headers: list[tuple[str, str]], *more: Any) -> Any:
                 return start_response(status, self.headers(snapshot, headers), *more)
 
             environ[KEY] = snapshot
-            body = self.application(environ, start)
+            body = self.app(environ, start)
             try:
                 yield from body
             finally:
@@ -171,24 +166,17 @@ class WSGIMiddleware(Middleware):
                     close()
 
 
-class ASGIMiddleware(Middleware):
-    """Puts a Snapshot into the scope of each HTTP request and WebSocket, as `kobdzila.snapshot`.
+class ASGIMiddleware(Middleware[ASGIApplication]):
+    """Puts a FollowerSnapshot into the scope of each HTTP request and WebSocket, as `kobdzila.snapshot`.
 
     A WebSocket whose version isn't there in time is closed with the code 1013, "try again later".
 
         application = ASGIMiddleware(application, follower)
     """
 
-    def __init__(
-        self, application: ASGIApplication, follower: Follower, domain: str | None = None, *, within: float = 0.5,
-        serve_older: bool = False, cookie: str = COOKIE, health: str | None = None,
-    ) -> None:
-        super().__init__(follower, within, serve_older, cookie, domain, health)
-        self.application = application
-
     async def __call__(self, scope: Message, receive: Receive, send: Send) -> None:
         if scope["type"] not in ("http", "websocket"):
-            await self.application(scope, receive, send)
+            await self.app(scope, receive, send)
             return
         made = None if scope.get("path", "") == self.health else await self._made(scope)
         if made is None:
@@ -203,9 +191,9 @@ class ASGIMiddleware(Middleware):
                                                       for name, value in self.headers(snapshot, written)]}
                 await send(message)
 
-            await self.application({**scope, KEY: snapshot}, receive, sends)
+            await self.app({**scope, KEY: snapshot}, receive, sends)
 
-    async def _made(self, scope: Message) -> Snapshot | None:
+    async def _made(self, scope: Message) -> FollowerSnapshot | None:
         """Return a snapshot for a request, without blocking the event loop."""
         def named(wanted: bytes, joint: str) -> str:
             return joint.join(value.decode("latin-1") for name, value in scope["headers"] if name.lower() == wanted)
