@@ -22,7 +22,7 @@ DOMAIN = "shop"
 def languages_of(accepted):
     """The value of Accept-Language as a list of languages for gettext: `fr-CA, de;q=0.5` is `fr_CA:de`."""
     weighed = []
-    for place, member in enumerate(accepted.split(",")):
+    for index, member in enumerate(accepted.split(",")):
         tag, _, weight = member.partition(";")
         try:
             value = float(weight.strip().removeprefix("q=") or 1)
@@ -30,7 +30,7 @@ def languages_of(accepted):
             value = 0
         language, _, region = tag.strip().partition("-")
         if value > 0 and language.isalpha() and (region == "" or region.isalnum()):
-            weighed.append((-value, place, language.lower() + (f"_{region.upper()}" if region else "")))
+            weighed.append((-value, index, language.lower() + (f"_{region.upper()}" if region else "")))
     return ":".join(name for _, _, name in sorted(weighed))
 
 

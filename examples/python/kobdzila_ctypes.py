@@ -132,9 +132,9 @@ class Translations(gettext.NullTranslations):
     def entries(self):
         """Each entry: its context or None, msgid, plural or None, and its forms."""
         entry = _Entry()
-        for place in range(_count(self._catalogue)):
-            _entry_at(self._catalogue, place, byref(entry))
-            forms = [_form_at(self._catalogue, place, k).text() for k in range(entry.forms)]
+        for index in range(_count(self._catalogue)):
+            _entry_at(self._catalogue, index, byref(entry))
+            forms = [_form_at(self._catalogue, index, k).text() for k in range(entry.forms)]
             yield entry.context.text(), entry.msgid.text(), entry.plural.text(), forms
 
     def mo_file(self):

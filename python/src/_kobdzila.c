@@ -13,12 +13,11 @@
 static struct PyModuleDef definition;
 
 struct catalogue {
-    PyObject_HEAD
-    kob_catalogue *held;        /* NULL: an empty catalogue */
-    const char *file;           /* its MO file, in which all its texts lie */
-    int is_by_dict;             /* whether its texts were put into a dict, by which methods in Python answer */
-    const struct state *state;  /* of the module, which the type keeps alive */
-    PyObject *fallback;         /* asked for what isn't found; NULL or None: nobody */
+    struct object base;
+    kob_catalogue *held; /* NULL: an empty catalogue */
+    const char *file;    /* its MO file, in which all its texts lie */
+    int is_by_dict;      /* whether its texts were put into a dict, by which methods in Python answer */
+    PyObject *fallback;  /* asked for what isn't found; NULL or None: nobody */
     struct answers answers;
 };
 
@@ -67,20 +66,23 @@ const struct state *state_of(PyTypeObject *type) {
     return NULL;
 }
 
-static PyObject *new_catalogue(PyTypeObject *type) {
+PyObject *new_object(PyTypeObject *type, PyObject *args, PyObject *keywords) {
+    (void)args, (void)keywords;
     const struct state *state = state_of(type);
     if (!state)
         return NULL;
     allocfunc allocate = (allocfunc)PyType_GetSlot(type, Py_tp_alloc);
     PyObject *self = allocate(type, 0);
     if (self)
-        catalogue_of(self)->state = state;
+        ((struct object *)self)->state = state;
     return self;
 }
 
-static PyObject *catalogue_new(PyTypeObject *type, PyObject *args, PyObject *keywords) {
-    (void)args, (void)keywords; /* they are for __init__ */
-    return new_catalogue(type);
+void free_object(PyObject *object) {
+    PyTypeObject *type = Py_TYPE(object);
+    freefunc release = (freefunc)PyType_GetSlot(type, Py_tp_free);
+    release(object);
+    Py_DECREF(type);
 }
 
 PyObject *refuse(const struct state *state, const kob_refusal *why) {
@@ -113,7 +115,7 @@ static int open_bytes(struct catalogue *self, PyObject *object, int options) {
     Py_END_ALLOW_THREADS
     Py_DECREF(bytes);
     if (!opened) {
-        refuse(self->state, &why);
+        refuse(self->base.state, &why);
         return -1;
     }
     hold(self, opened);
@@ -122,7 +124,7 @@ static int open_bytes(struct catalogue *self, PyObject *object, int options) {
 
 /* Return a new catalogue of the class, opened from bytes. */
 static PyObject *opened_from(PyObject *class, PyObject *object, int options) {
-    PyObject *self = new_catalogue((PyTypeObject *)class);
+    PyObject *self = new_object((PyTypeObject *)class, NULL, NULL);
     if (self && open_bytes(catalogue_of(self), object, options) < 0)
         Py_CLEAR(self);
     return self;
@@ -177,7 +179,7 @@ static int open_file(struct catalogue *self, PyObject *name, int options) {
             PyErr_SetFromErrnoWithFilenameObject(PyExc_OSError, path);
         Py_XDECREF(path);
     } else {
-        refuse(self->state, &why);
+        refuse(self->base.state, &why);
     }
     return -1;
 }
@@ -206,7 +208,7 @@ static PyObject *open_path(PyObject *class, PyObject *const *args, Py_ssize_t gi
         return NULL;
     int po = is_po(got[1], name);
     if (po >= 0)
-        self = new_catalogue((PyTypeObject *)class);
+        self = new_object((PyTypeObject *)class, NULL, NULL);
     if (self && open_file(catalogue_of(self), name, po ? options : MO) < 0)
         Py_CLEAR(self);
     Py_DECREF(name);
@@ -226,7 +228,7 @@ PyDoc_STRVAR(share_text, "_share($self, /)\n--\n\n"
 static PyObject *share(PyObject *object, PyObject *unused) {
     (void)unused;
     struct catalogue *self = catalogue_of(object);
-    PyObject *other = new_catalogue(Py_TYPE(object));
+    PyObject *other = new_object(Py_TYPE(object), NULL, NULL);
     if (!other)
         return NULL;
     hold(catalogue_of(other), self->held ? kob_retain(self->held) : NULL);
@@ -292,13 +294,13 @@ static PyObject *passed_on(const struct catalogue *self, enum call call, PyObjec
     if (!has_fallback(self))
         return Py_NewRef(own);
     PyObject *fallback = Py_NewRef(self->fallback);
-    PyObject *answer = call_method(fallback, self->state->names[call], got, counts[call]);
+    PyObject *answer = call_method(fallback, self->base.state->names[call], got, counts[call]);
     Py_DECREF(fallback);
     return answer;
 }
 
 static PyObject *by_dict(PyObject *object, enum call call, PyObject *const *got) {
-    return call_method(object, catalogue_of(object)->state->names[BY_DICT + call], got, counts[call]);
+    return call_method(object, catalogue_of(object)->base.state->names[BY_DICT + call], got, counts[call]);
 }
 
 PyDoc_STRVAR(gettext_text, "gettext($self, /, message)\n--\n\n"
@@ -343,7 +345,7 @@ static PyObject *counted(struct catalogue *self, enum call call, PyObject *const
     if (!is_plain && !self->held && has_fallback(self))
         return passed_on(self, call, got, last[1]);
     if (!is_plain)
-        return other_number((PyObject *)self, self->state->names[OTHER_NUMBER], NULL, context, last);
+        return other_number((PyObject *)self, self->base.state->names[OTHER_NUMBER], NULL, context, last);
     PyObject *answer = found(self, context, last[0], n);
     return answer ? answer : passed_on(self, call, got, n == 1 ? last[0] : last[1]);
 }
@@ -384,10 +386,10 @@ static PyObject *text_or_none(kob_text text) {
     return text.at ? PyUnicode_DecodeUTF8(text.at, (Py_ssize_t)text.len, NULL) : Py_NewRef(Py_None);
 }
 
-static PyObject *forms_of(const kob_catalogue *held, size_t place, size_t count) {
+static PyObject *forms_of(const kob_catalogue *held, size_t index, size_t count) {
     PyObject *forms = PyTuple_New((Py_ssize_t)count);
     for (size_t k = 0; forms && k < count; k++) {
-        PyObject *form = text_or_none(kob_form_at(held, place, k));
+        PyObject *form = text_or_none(kob_form_at(held, index, k));
         if (!form || PyTuple_SetItem(forms, (Py_ssize_t)k, form) < 0)
             Py_CLEAR(forms);
     }
@@ -395,14 +397,14 @@ static PyObject *forms_of(const kob_catalogue *held, size_t place, size_t count)
 }
 
 /* Return the parts of an entry, as a tuple. */
-static PyObject *parts_of(const kob_catalogue *held, size_t place) {
+static PyObject *parts_of(const kob_catalogue *held, size_t index) {
     kob_entry entry;
-    if (!kob_entry_at(held, place, &entry)) {
+    if (!kob_entry_at(held, index, &entry)) {
         PyErr_SetString(PyExc_IndexError, "no such entry");
         return NULL;
     }
     PyObject *parts[] = { text_or_none(entry.context), text_or_none(entry.msgid), text_or_none(entry.plural),
-                          forms_of(held, place, entry.forms) };
+                          forms_of(held, index, entry.forms) };
     PyObject *all = NULL;
     if (parts[0] && parts[1] && parts[2] && parts[3])
         all = PyTuple_Pack(4, parts[0], parts[1], parts[2], parts[3]);
@@ -411,11 +413,11 @@ static PyObject *parts_of(const kob_catalogue *held, size_t place) {
     return all;
 }
 
-PyDoc_STRVAR(entry_text, "_entry($self, place, /)\n--\n\n"
+PyDoc_STRVAR(entry_text, "_entry($self, index, /)\n--\n\n"
                          "Return the context, msgid, plural and forms of an entry. IndexError if there is none.");
 
-static PyObject *entry_at(PyObject *object, PyObject *place) {
-    size_t number = PyLong_AsSize_t(place);
+static PyObject *entry_at(PyObject *object, PyObject *index) {
+    size_t number = PyLong_AsSize_t(index);
     if (number == (size_t)-1 && PyErr_Occurred())
         return NULL;
     if (!catalogue_of(object)->held) {
@@ -441,10 +443,10 @@ static int compare_keys(kob_text key, const kob_entry *entry) {
     return key.len != 0;
 }
 
-PyDoc_STRVAR(place_text, "_place($self, key, /)\n--\n\n"
+PyDoc_STRVAR(index_text, "_index($self, key, /)\n--\n\n"
                          "Return the number of the entry with this key of an MO file, a str, or -1.");
 
-static PyObject *place_of_key(PyObject *object, PyObject *name) {
+static PyObject *index_of_key(PyObject *object, PyObject *name) {
     kob_text key;
     int is_text = utf8_of(name, &key);
     if (is_text < 0)
@@ -545,16 +547,15 @@ static void release_fallback(struct chain *chain, PyObject *fallback) {
 }
 
 static void catalogue_dealloc(PyObject *object) {
-    PyTypeObject *type = Py_TYPE(object);
+    PyObject *type = Py_NewRef(Py_TYPE(object)); /* (it keeps the module's state) */
     PyObject_GC_UnTrack(object);
     PyObject *fallback = catalogue_of(object)->fallback;
-    struct chain *chain = fallback ? catalogue_of(object)->state->chain : NULL;
+    struct chain *chain = fallback ? catalogue_of(object)->base.state->chain : NULL;
     catalogue_of(object)->fallback = NULL;
     hold(catalogue_of(object), NULL);
-    freefunc release = (freefunc)PyType_GetSlot(type, Py_tp_free);
-    release(object);
+    free_object(object);
     if (fallback)
-        release_fallback(chain, fallback); /* (the type keeps the module's state) */
+        release_fallback(chain, fallback);
     Py_DECREF(type);
 }
 
@@ -568,7 +569,7 @@ static PyMethodDef catalogue_methods[] = {
     { "npgettext", FAST(catalogue_npgettext), KEYWORDS, npgettext_text },
     { "mo_file", mo_file, METH_NOARGS, mo_file_text },
     { "_entry", entry_at, METH_O, entry_text },
-    { "_place", place_of_key, METH_O, place_text },
+    { "_index", index_of_key, METH_O, index_text },
     { "_read_mo", read_mo, METH_O, read_mo_text },
     { "_share", share, METH_NOARGS, share_text },
     { NULL, NULL, 0, NULL },
@@ -585,7 +586,7 @@ PyDoc_STRVAR(catalogue_text, "A message catalogue. It never changes once it is o
 
 static PyType_Slot catalogue_slots[] = {
     { Py_tp_doc, (void *)catalogue_text },
-    { Py_tp_new, catalogue_new },
+    { Py_tp_new, new_object },
     { Py_tp_dealloc, catalogue_dealloc },
     { Py_tp_traverse, catalogue_traverse },
     { Py_tp_clear, catalogue_clear },

@@ -7,10 +7,10 @@
 /* Return the slot of this answer: its own, or the free one where it belongs. */
 static struct answer *slot_of(struct answer *slots, unsigned bits, uint64_t key) {
     size_t mask = ((size_t)1 << bits) - 1;
-    size_t place = (size_t)(mixed(key) >> (64 - bits));
-    while (slots[place].text && slots[place].key != key)
-        place = (place + 1) & mask;
-    return &slots[place];
+    size_t index = (size_t)(mixed(key) >> (64 - bits));
+    while (slots[index].text && slots[index].key != key)
+        index = (index + 1) & mask;
+    return &slots[index];
 }
 
 /* Return whether a key was asked for before, or another one of its kind, and note that it was. */
@@ -89,15 +89,15 @@ static void drop(const struct recent *recent) {
 /* Put an answer, with its references, into a free slot, or in place of the one whose turn it is. */
 static void put_recent(struct recent *recents, unsigned bits, struct recent answer, unsigned turn) {
     struct recent *slots = recent_slots(recents, bits, answer.context, answer.msgid, answer.form);
-    int place = 0;
-    while (place < NEAR && slots[place].msgid)
-        place++;
-    struct recent *slot = &slots[place < NEAR ? (unsigned)place : turn % NEAR], displaced = *slot;
+    int index = 0;
+    while (index < NEAR && slots[index].msgid)
+        index++;
+    struct recent *slot = &slots[index < NEAR ? (unsigned)index : turn % NEAR], displaced = *slot;
     *slot = answer;
     drop(&displaced);
 }
 
-/* Give the recent answers a table with 1 << bits places, if there is memory for it. */
+/* Give the recent answers a table of 1 << bits slots and NEAR more, if there is memory for it. */
 static void resize_recents(struct answers *answers, unsigned bits) {
     struct recent *more = PyMem_Calloc(room_of(bits), sizeof *more);
     answers->lacked = 0;
@@ -113,10 +113,10 @@ static void resize_recents(struct answers *answers, unsigned bits) {
 
 /* Return whether there is a table of recent answers. It grows first if it has lacked many. */
 static int has_recents(struct answers *answers, int was_known) {
-    size_t places = (size_t)1 << answers->recent_bits;
+    size_t count = (size_t)1 << answers->recent_bits;
     if (!answers->recents)
         resize_recents(answers, LEAST_RECENT_BITS);
-    else if (was_known && ++answers->lacked >= places / 4 && places < answers->entries)
+    else if (was_known && ++answers->lacked >= count / 4 && count < answers->entries)
         resize_recents(answers, answers->recent_bits + 1);
     return answers->recents != NULL;
 }

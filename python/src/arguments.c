@@ -2,7 +2,7 @@
 #include "module.h"
 
 /* Return the number of the argument that `keyword` names, or -1. */
-static Py_ssize_t place_of(const struct signature *wanted, PyObject *keyword) {
+static Py_ssize_t index_of(const struct signature *wanted, PyObject *keyword) {
     for (Py_ssize_t k = 0; k < wanted->count; k++)
         if (PyUnicode_CompareWithASCIIString(keyword, wanted->names[k]) == 0)
             return k;
@@ -14,16 +14,16 @@ static int take_keywords(const struct signature *wanted, PyObject *const *values
     Py_ssize_t count = PyTuple_Size(keywords);
     for (Py_ssize_t k = 0; k < count; k++) {
         PyObject *keyword = PyTuple_GetItem(keywords, k);
-        Py_ssize_t place = place_of(wanted, keyword);
-        if (place < 0) {
+        Py_ssize_t index = index_of(wanted, keyword);
+        if (index < 0) {
             PyErr_Format(PyExc_TypeError, "%s() got an unexpected keyword argument '%U'", wanted->function, keyword);
             return -1;
         }
-        if (out[place]) {
+        if (out[index]) {
             PyErr_Format(PyExc_TypeError, "%s() got multiple values for argument '%U'", wanted->function, keyword);
             return -1;
         }
-        out[place] = values[k];
+        out[index] = values[k];
     }
     return 0;
 }

@@ -2,25 +2,12 @@
 #include "module.h"
 
 struct lazy {
-    PyObject_HEAD
-    const struct state *state; /* of the module, which the type keeps alive */
-    PyObject *current;         /* what is called for a snapshot, or NULL */
-    PyObject *plain;           /* a type of snapshots that has the methods of the extension, or NULL */
+    struct object base;
+    PyObject *current; /* what is called for a snapshot, or NULL */
+    PyObject *plain;   /* a type of snapshots that has the methods of the extension, or NULL */
 };
 
 static struct lazy *lazy_of(PyObject *object) { return (struct lazy *)object; }
-
-static PyObject *lazy_new(PyTypeObject *type, PyObject *args, PyObject *keywords) {
-    (void)args, (void)keywords; /* they are for __init__ */
-    const struct state *state = state_of(type);
-    if (!state)
-        return NULL;
-    allocfunc allocate = (allocfunc)PyType_GetSlot(type, Py_tp_alloc);
-    PyObject *self = allocate(type, 0);
-    if (self)
-        lazy_of(self)->state = state;
-    return self;
-}
 
 static int lazy_traverse(PyObject *object, visitproc visit, void *arg) {
     Py_VISIT(Py_TYPE(object));
@@ -36,12 +23,9 @@ static int lazy_clear(PyObject *object) {
 }
 
 static void lazy_dealloc(PyObject *object) {
-    PyTypeObject *type = Py_TYPE(object);
     PyObject_GC_UnTrack(object);
     lazy_clear(object);
-    freefunc release = (freefunc)PyType_GetSlot(type, Py_tp_free);
-    release(object);
-    Py_DECREF(type);
+    free_object(object);
 }
 
 static PyObject *current_of(PyObject *object, void *unused) {
@@ -71,12 +55,12 @@ static int has_own(PyObject *snapshot, PyObject *type, PyObject *name) {
 
 /* Return whether the extension's own methods are those of this object's type, and remember the type. -1: an exception. */
 static int is_plain(struct lazy *self, PyObject *snapshot) {
-    PyObject *type = (PyObject *)Py_TYPE(snapshot), *own = self->state->snapshot;
+    PyObject *type = (PyObject *)Py_TYPE(snapshot), *own = self->base.state->snapshot;
     if (type == self->plain)
         return 1;
     int is_own = PyObject_TypeCheck(snapshot, (PyTypeObject *)own);
     for (int k = GETTEXT; is_own > 0 && k <= NPGETTEXT; k++)
-        is_own = has_own(own, type, self->state->names[k]);
+        is_own = has_own(own, type, self->base.state->names[k]);
     if (is_own > 0) {
         PyObject *before = self->plain;
         self->plain = Py_NewRef(type);
@@ -116,7 +100,7 @@ static PyObject *answer(PyObject *object, enum call call, PyObject *const *args,
     if (is_own > 0)
         answer = snapshot_answer(snapshot, names[call], kinds[call], args, given, keywords);
     else if (is_own == 0)
-        answer = passed_on(snapshot, self->state->names[call], args, given, keywords);
+        answer = passed_on(snapshot, self->base.state->names[call], args, given, keywords);
     Py_DECREF(snapshot);
     return answer;
 }
@@ -150,7 +134,7 @@ static PyGetSetDef lazy_properties[] = {
 PyDoc_STRVAR(lazy_text, "Translations that get a snapshot at each call.");
 
 static PyType_Slot lazy_slots[] = {
-    { Py_tp_doc, (void *)lazy_text },     { Py_tp_new, lazy_new },
+    { Py_tp_doc, (void *)lazy_text },     { Py_tp_new, new_object },
     { Py_tp_dealloc, lazy_dealloc },      { Py_tp_traverse, lazy_traverse },
     { Py_tp_clear, lazy_clear },          { Py_tp_methods, lazy_methods },
     { Py_tp_getset, lazy_properties },    { 0, NULL },

@@ -105,8 +105,20 @@ struct state {
     PyObject *names[CALLS];
 };
 
+/* What each object of the module's types begins with. */
+struct object {
+    PyObject_HEAD
+    const struct state *state; /* of the module, which the type keeps alive */
+};
+
 /* Return the state of the module whose type `type` is or inherits from. NULL: an exception. */
 const struct state *state_of(PyTypeObject *type);
+
+/* Return an object that has the state and is zero otherwise, or NULL with an exception. The arguments are for __init__. */
+PyObject *new_object(PyTypeObject *type, PyObject *args, PyObject *keywords);
+
+/* Free an object that holds nothing any more. */
+void free_object(PyObject *object);
 
 /* Raise what a refusal means, and return NULL. */
 PyObject *refuse(const struct state *state, const kob_refusal *why);

@@ -5,8 +5,7 @@
 #include "shared.h"
 
 struct snapshot {
-    PyObject_HEAD
-    const struct state *state; /* of the module, which the type keeps alive */
+    struct object base;
     struct shared *shared;
     kob_reader *reader; /* NULL: the snapshot was closed */
     const kob_set *set; /* which the reader lends */
@@ -60,11 +59,9 @@ static PyObject *snapshot_new(PyTypeObject *type, PyObject *args, PyObject *keyw
     }
     if (!is_text(domain, "domain") || !is_text(languages, "languages"))
         return NULL;
-    allocfunc allocate = (allocfunc)PyType_GetSlot(type, Py_tp_alloc);
-    PyObject *self = allocate(type, 0);
+    PyObject *self = new_object(type, NULL, NULL);
     if (!self)
         return NULL;
-    snapshot_of(self)->state = state;
     snapshot_of(self)->domain = Py_NewRef(domain);
     snapshot_of(self)->languages = Py_NewRef(languages);
     if (open_snapshot(snapshot_of(self), shared_of(store)) < 0)
@@ -87,15 +84,12 @@ static void close_snapshot(struct snapshot *self) {
 }
 
 static void snapshot_dealloc(PyObject *object) {
-    PyTypeObject *type = Py_TYPE(object);
     struct snapshot *self = snapshot_of(object);
     close_snapshot(self);
     drop_shared(self->shared);
     Py_XDECREF(self->domain);
     Py_XDECREF(self->languages);
-    freefunc release = (freefunc)PyType_GetSlot(type, Py_tp_free);
-    release(object);
-    Py_DECREF(type);
+    free_object(object);
 }
 
 PyDoc_STRVAR(close_text, "close($self, /)\n--\n\n"
@@ -212,7 +206,7 @@ static PyObject *counted(struct snapshot *self, PyObject *domain, PyObject *cont
     if (is_plain < 0)
         return NULL;
     if (!is_plain)
-        return other_number((PyObject *)self, self->state->names[OTHER_NUMBER], domain, context, last);
+        return other_number((PyObject *)self, self->base.state->names[OTHER_NUMBER], domain, context, last);
     PyObject *answer = found(self, (struct question){ domain, self->languages, context, last[0], n });
     return answer || PyErr_Occurred() ? answer : Py_NewRef(n == 1 ? last[0] : last[1]);
 }

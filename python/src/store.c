@@ -9,8 +9,7 @@
 #include <string.h>
 
 struct store {
-    PyObject_HEAD
-    const struct state *state; /* of the module, which the type keeps alive */
+    struct object base;
     struct shared *shared;
 };
 
@@ -158,17 +157,17 @@ void drop_texts(struct texts *texts) {
 static int is_same(PyObject *one, PyObject *other) { return one == other || PyUnicode_Compare(one, other) == 0; }
 
 /* Return where the list has the answers, or its end. */
-static struct texts **place_of(struct shared *shared, PyObject *domain, PyObject *languages) {
-    struct texts **place = &shared->texts;
-    while (*place && !(is_same((*place)->domain, domain) && is_same((*place)->languages, languages)))
-        place = &(*place)->next;
-    return place;
+static struct texts **link_to(struct shared *shared, PyObject *domain, PyObject *languages) {
+    struct texts **link = &shared->texts;
+    while (*link && !(is_same((*link)->domain, domain) && is_same((*link)->languages, languages)))
+        link = &(*link)->next;
+    return link;
 }
 
 /* Take one out of the list, where it is, or the last one. Return it with the list's reference. */
-static struct texts *take_out(struct shared *shared, struct texts **place) {
-    struct texts *texts = *place;
-    *place = texts->next;
+static struct texts *take_out(struct shared *shared, struct texts **link) {
+    struct texts *texts = *link;
+    *link = texts->next;
     shared->texts_count--;
     return texts;
 }
@@ -178,14 +177,14 @@ struct texts *take_texts(struct shared *shared, unsigned long long version, PyOb
         return new_texts(version, domain, languages);
     if (shared->texts && version > shared->texts->version)
         forget_texts(shared);
-    struct texts **place = place_of(shared, domain, languages), *found;
-    if (*place) {
-        found = take_out(shared, place);
+    struct texts **link = link_to(shared, domain, languages), *found;
+    if (*link) {
+        found = take_out(shared, link);
     } else {
         found = new_texts(version, domain, languages);
         if (found && shared->texts_count == MOST_TEXTS) {
-            for (place = &shared->texts; (*place)->next; place = &(*place)->next) {}
-            drop_texts(take_out(shared, place));
+            for (link = &shared->texts; (*link)->next; link = &(*link)->next) {}
+            drop_texts(take_out(shared, link));
         }
     }
     if (!found)
@@ -200,15 +199,9 @@ struct texts *take_texts(struct shared *shared, unsigned long long version, PyOb
 /* ------------------------------------------------------------------------------------------------ the store */
 
 static PyObject *store_new(PyTypeObject *type, PyObject *args, PyObject *keywords) {
-    (void)args, (void)keywords; /* they are for __init__ */
-    const struct state *state = state_of(type);
-    if (!state)
-        return NULL;
-    allocfunc allocate = (allocfunc)PyType_GetSlot(type, Py_tp_alloc);
-    PyObject *self = allocate(type, 0);
+    PyObject *self = new_object(type, args, keywords);
     if (!self)
         return NULL;
-    store_of(self)->state = state;
     store_of(self)->shared = new_shared();
     if (store_of(self)->shared)
         return self;
@@ -217,11 +210,8 @@ static PyObject *store_new(PyTypeObject *type, PyObject *args, PyObject *keyword
 }
 
 static void store_dealloc(PyObject *object) {
-    PyTypeObject *type = Py_TYPE(object);
     drop_shared(store_of(object)->shared);
-    freefunc release = (freefunc)PyType_GetSlot(type, Py_tp_free);
-    release(object);
-    Py_DECREF(type);
+    free_object(object);
 }
 
 /* Store the bytes of a name in *name and return 1. Return 0 if no text domain or locale has such a name, and -1 with an
@@ -249,7 +239,7 @@ static PyObject *store_load(PyObject *object, PyObject *const *args, Py_ssize_t 
     int is_domain = got ? name_of(got[0], &domain) : -1, is_locale = got ? name_of(got[1], &locale) : -1;
     if (is_domain < 0 || is_locale < 0)
         return NULL;
-    if (!PyObject_TypeCheck(got[2], (PyTypeObject *)self->state->catalogue) || !held_in(got[2])) {
+    if (!PyObject_TypeCheck(got[2], (PyTypeObject *)self->base.state->catalogue) || !held_in(got[2])) {
         PyErr_SetString(PyExc_TypeError, "not a catalogue that was opened");
         return NULL;
     }
@@ -262,7 +252,7 @@ static PyObject *store_load(PyObject *object, PyObject *const *args, Py_ssize_t 
         kob_release(held);
         END_CALLS(self->shared)
     }
-    return is_loaded ? Py_NewRef(Py_None) : refuse(self->state, &why);
+    return is_loaded ? Py_NewRef(Py_None) : refuse(self->base.state, &why);
 }
 
 PyDoc_STRVAR(publish_text, "_publish($self, /)\n--\n\n"

@@ -171,9 +171,9 @@ class OpeningTest(unittest.TestCase):
             Catalogue.open("a\0b")
         with self.assertRaises(IndexError):
             french()._entry(99)
-        for place in (-1, 2**70):
+        for index in (-1, 2**70):
             with self.assertRaises(OverflowError):
-                french()._entry(place)
+                french()._entry(index)
 
     @unittest.skipIf(SANITIZED, "limits of memory don't suit AddressSanitizer")
     def test_memory_error(self) -> None:

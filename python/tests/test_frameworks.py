@@ -56,16 +56,16 @@ def page(n):
 
 def changed(text: str, difference: str) -> str:
     """The text with the changes of a diff without line numbers, whose lines it has in their order."""
-    lines, place = text.splitlines(), 0
+    lines, index = text.splitlines(), 0
     for line in filter(None, difference.splitlines()):
         if line[0] == "+":
-            lines.insert(place, line[1:])
+            lines.insert(index, line[1:])
         else:
-            place = lines.index(line[1:], place)
+            index = lines.index(line[1:], index)
         if line[0] == "-":
-            del lines[place]
+            del lines[index]
         else:
-            place += 1
+            index += 1
     return "\n".join(lines)
 
 

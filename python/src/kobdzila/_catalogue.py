@@ -74,7 +74,7 @@ class Catalogue(_kobdzila.Catalogue):
         ...     print(entry)
         Entry(context=None, msgid='hi', plural=None, forms=('salut',))
         """
-        return (Entry(*self._entry(place)) for place in range(self.count))
+        return (Entry(*self._entry(index)) for index in range(self.count))
 
     def forms(self, msgid: str, context: str | None = None) -> tuple[str, ...]:
         """Return all forms of a message: one if it has no plural, and none if it isn't in the catalogue.
@@ -82,8 +82,8 @@ class Catalogue(_kobdzila.Catalogue):
         >>> Catalogue.from_po(b'msgid "hi"\\nmsgstr "salut"\\n').forms("hi")
         ('salut',)
         """
-        place = self._place(msgid if context is None else f"{context}\x04{msgid}")
-        return self._entry(place)[3] if place >= 0 else ()
+        index = self._index(msgid if context is None else f"{context}\x04{msgid}")
+        return self._entry(index)[3] if index >= 0 else ()
 
     def info(self) -> dict[str, str]:
         """Return the fields of the header, with their names in lower case as keys."""
@@ -160,9 +160,9 @@ class Texts(AnyMapping):
         if self._dict is not None:
             return self._dict[key]
         message, number = key if isinstance(key, tuple) and len(key) == 2 else (key, None)
-        place = self._owner._place(message)
-        if place >= 0:
-            _, _, plural, forms = self._owner._entry(place)
+        index = self._owner._index(message)
+        if index >= 0:
+            _, _, plural, forms = self._owner._entry(index)
             if plural is None and number is None:
                 return forms[0]
             if plural is not None and isinstance(number, int) and 0 <= number < len(forms):

@@ -124,9 +124,9 @@ def difference(wanted: Arguments, found: Arguments, may_lack: Callable[[], bool]
             return f"takes {kind} for '{name}', and the message {wanted.named[name]}"
     if len(found.unnamed) > len(wanted.unnamed):
         return f"takes {len(found.unnamed)} arguments, and the message {len(wanted.unnamed)}"
-    for place, (kind, other) in enumerate(zip(found.unnamed, wanted.unnamed), 1):
+    for number, (kind, other) in enumerate(zip(found.unnamed, wanted.unnamed), 1):
         if kind != other:
-            return f"takes {kind} as argument {place}, and the message {other}"
+            return f"takes {kind} as argument {number}, and the message {other}"
     lacking = [f"'{name}'" for name in wanted.named if name not in found.named]
     lacking += [f"argument {len(found.unnamed) + 1}"] if len(found.unnamed) < len(wanted.unnamed) else []
     return f"doesn't take {lacking[0]}, which the message does" if lacking and not may_lack() else ""

@@ -107,8 +107,8 @@ class LazyText:
     def __contains__(self, part: str) -> bool:
         return part in str(self)
 
-    def __getitem__(self, place: Any) -> str:
-        part: str = str(self)[place]
+    def __getitem__(self, index: Any) -> str:
+        part: str = str(self)[index]
         return part
 
     def __add__(self, other: Any) -> str:
