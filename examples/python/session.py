@@ -29,7 +29,7 @@ class Answer(NamedTuple):
 class Refusal(NamedTuple):
     domain: str
     locale: str
-    kind: int | None  # the number of the refusal; None if the domain or the locale isn't a name
+    fault: int | None  # its number; None if the domain or the locale isn't a name
     line: int | None  # of a PO text
 
 
@@ -37,9 +37,9 @@ class LoadRefused(Exception):
     """Some loads of a publish were refused. The others are published, as `version`."""
 
     def __init__(self, version, refusals):
-        super().__init__("; ".join(f"{it.locale} in {it.domain}: kind {it.kind}, line {it.line}" for it in refusals))
+        super().__init__("; ".join(f"{it.locale} in {it.domain}: fault {it.fault}, line {it.line}" for it in refusals))
         self.version, self.refusals = version, refusals
-        self.kind, self.line = refusals[0].kind, refusals[0].line
+        self.fault, self.line = refusals[0].fault, refusals[0].line
 
 
 class SessionEnded(Exception):

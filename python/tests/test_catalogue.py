@@ -23,7 +23,7 @@ from common import OPENS, SANITIZED, assert_no_leak, failures_of, in_threads, ne
 from kobdzila import Catalogue, Fault, GNUTranslations, Refused, _kobdzila
 from texts import ARABIC, FRENCH, HEADER, french, mo
 
-# PO texts and the refusal of each: its kind and line
+# PO texts and the refusal of each: its fault and line
 REFUSED_TEXTS = [
     (b"# \xff", Fault.PO_NOT_UTF8, 1),
     (b'msgid "\\y"\nmsgstr ""', Fault.PO_BAD_ESCAPE, 1),
@@ -83,7 +83,7 @@ class OpeningTest(unittest.TestCase):
         self.assertEqual(GNUTranslations(SYSTEM_DEPENDENT).gettext("n %lu"), "%lu N")
         with self.assertRaises(Refused) as caught:
             Catalogue.from_mo(SYSTEM_DEPENDENT[:28] + b"\xff" + SYSTEM_DEPENDENT[29:])
-        self.assertEqual(caught.exception.kind, Fault.MO_DEPENDENT_TABLES)
+        self.assertEqual(caught.exception.fault, Fault.MO_DEPENDENT_TABLES)
 
     def test_text_with_macros(self) -> None:
         catalogue = Catalogue.from_po(SYSTEM_TEXT, checked=True)
@@ -91,7 +91,7 @@ class OpeningTest(unittest.TestCase):
         self.assertEqual((catalogue.gettext("n %lu"), catalogue.gettext("s")), ("%lu N", "S"))
         with self.assertRaises(Refused) as caught:
             Catalogue.from_po(SYSTEM_TEXT.replace(b"%<PRIu64> N", b"%<PRId64> N"), checked=True)
-        self.assertEqual(caught.exception.kind, Fault.PO_FORMAT_MISMATCH)
+        self.assertEqual(caught.exception.fault, Fault.PO_FORMAT_MISMATCH)
 
     def test_formats(self) -> None:
         file = french().mo_file()
@@ -110,23 +110,23 @@ class OpeningTest(unittest.TestCase):
                 self.assertEqual(Catalogue.open(Path(path), po=po).gettext("basket"), "panier")
             with self.assertRaises(Refused) as caught:
                 Catalogue.open(os.path.join(room, "c"))
-            self.assertEqual(caught.exception.kind, Fault.MO_MAGIC)
+            self.assertEqual(caught.exception.fault, Fault.MO_MAGIC)
             for missing, wanted in ((f"{room}/none.mo", FileNotFoundError), (f"{room}", IsADirectoryError)):
                 with self.assertRaises(wanted) as failed:
                     Catalogue.open(missing)
                 self.assertEqual(failed.exception.filename, missing)
 
     def test_refused_texts(self) -> None:
-        for text, kind, line in REFUSED_TEXTS:
+        for text, fault, line in REFUSED_TEXTS:
             with self.assertRaises(Refused, msg=str(text)) as caught:
                 Catalogue.from_po(text)
-            self.assertEqual((caught.exception.kind, caught.exception.line), (kind, line))
+            self.assertEqual((caught.exception.fault, caught.exception.line), (fault, line))
             self.assertIn(caught.exception.text, str(caught.exception))
-        for text, kind in CHECKED_TEXTS:
+        for text, fault in CHECKED_TEXTS:
             Catalogue.from_po(text)
             with self.assertRaises(Refused, msg=str(text)) as caught:
                 Catalogue.from_po(text, checked=True)
-            self.assertEqual(caught.exception.kind, kind)
+            self.assertEqual(caught.exception.fault, fault)
 
     def test_fuzzy(self) -> None:
         text = b'#, fuzzy\nmsgid "a"\nmsgstr "x"\n'
@@ -136,10 +136,10 @@ class OpeningTest(unittest.TestCase):
         self.assertEqual(Catalogue.from_po(text, use_fuzzy=one).gettext("a"), "x")
 
     def test_refused_files(self) -> None:
-        for data, kind in REFUSED_FILES:
+        for data, fault in REFUSED_FILES:
             with self.assertRaises(Refused) as caught:
                 Catalogue.from_mo(data)
-            self.assertEqual((caught.exception.kind, caught.exception.line), (kind, 0))
+            self.assertEqual((caught.exception.fault, caught.exception.line), (fault, 0))
 
     def test_wrong_arguments(self) -> None:
         made: Any = Catalogue  # (mypy would refuse these calls)
@@ -217,7 +217,7 @@ class OpeningTest(unittest.TestCase):
             try:
                 Catalogue.from_mo(b"")
             except Refused as refusal:
-                return refusal.kind is Fault.MO_SHORT
+                return refusal.fault is Fault.MO_SHORT
             return False
 
         self.assertGreater(failures_of(self, is_well, 400) + failures_of(self, refused, 400), 20)

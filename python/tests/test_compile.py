@@ -76,10 +76,10 @@ class CompileTest(unittest.TestCase):
             (b"\xef\xbb\xbf" + FRENCH.encode(), False, Fault.PO_BAD_WORD, 1),
             (b'\n\n#: x\n#, python-format\n#: y\nmsgid "%d"\nmsgstr "%s"\n', True, Fault.PO_FORMAT_MISMATCH, 6),
         ]
-        for text, checked, kind, line in rows:
+        for text, checked, fault, line in rows:
             with self.assertRaises(Refused) as caught:
                 compile_po(text, checked=checked)
-            self.assertEqual((caught.exception.kind, caught.exception.line), (kind, line))
+            self.assertEqual((caught.exception.fault, caught.exception.line), (fault, line))
         self.assertIn("byte order mark", is_refused(b"\xef\xbb\xbf"))
         self.assertRaises(TypeError, compile_po, "text")
         self.assertRaises(TypeError, compile_po, b"", True)

@@ -57,7 +57,7 @@ class SessionTest(unittest.TestCase):
                 session.publish()
             self.assertEqual((caught.exception.version, caught.exception.refusals[0][:3]), (1, ("shop", "fr", 5)))
             self.assertEqual(caught.exception.refusals[1], ("a b", "de", None, None))
-            self.assertIn("fr in shop: kind 5, line 3", str(caught.exception))
+            self.assertIn("fr in shop: fault 5, line 3", str(caught.exception))
             two: Any = "2"
             calls: list[Callable[[], object]] = [
                 lambda: session.load("shop", "fr", b"", "x"),

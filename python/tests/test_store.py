@@ -48,7 +48,7 @@ class LoadTest(unittest.TestCase):
         other_order = mo[3::-1] + mo[4:]  # (the magic number tells the format, even of a file that is no catalogue)
         with self.assertRaises(Refused) as caught:
             Store().load("shop", "fr", other_order)
-        self.assertLess(caught.exception.kind, Fault.PO_TOO_LARGE)
+        self.assertLess(caught.exception.fault, Fault.PO_TOO_LARGE)
 
     def test_versions(self) -> None:
         store = Store("shop")
@@ -65,19 +65,19 @@ class LoadTest(unittest.TestCase):
     def test_refusals(self) -> None:
         store = store_with(("shop", "fr", FRENCH.encode()))
         store.load("shop", "de", text_of(basket="Korb"))
-        for data, kind, line in REFUSED_TEXTS:
+        for data, fault, line in REFUSED_TEXTS:
             with self.assertRaises(Refused, msg=str(data)) as caught:
                 store.load("shop", "fr", data)
-            self.assertEqual((caught.exception.kind, caught.exception.line), (kind, line))
-        for data, kind in CHECKED_TEXTS:
+            self.assertEqual((caught.exception.fault, caught.exception.line), (fault, line))
+        for data, fault in CHECKED_TEXTS:
             with self.assertRaises(Refused, msg=str(data)) as caught:
                 store.load("shop", "fr", data, checked=True)
-            self.assertEqual(caught.exception.kind, kind)
-        for data, kind in REFUSED_FILES:
-            if len(data) > 28 and kind is not Fault.MO_MAGIC:
+            self.assertEqual(caught.exception.fault, fault)
+        for data, fault in REFUSED_FILES:
+            if len(data) > 28 and fault is not Fault.MO_MAGIC:
                 with self.assertRaises(Refused, msg=str(data)) as caught:
                     store.load("shop", "fr", data)
-                self.assertEqual((caught.exception.kind, caught.exception.line), (kind, 0))
+                self.assertEqual((caught.exception.fault, caught.exception.line), (fault, 0))
         self.assertEqual((store.version, store.pending), (1, 1))
         self.assertEqual(store.publish(), 2)
         self.assertEqual(store.snapshot("fr").gettext("basket"), "panier")
@@ -88,7 +88,7 @@ class LoadTest(unittest.TestCase):
             for load in ((name, "fr", catalogue), ("shop", name, catalogue)):
                 with self.assertRaises(Refused, msg=repr(name)) as caught:
                     store.load(*load)
-                self.assertEqual((caught.exception.kind, caught.exception.line), (Fault.BAD_NAME, 0))
+                self.assertEqual((caught.exception.fault, caught.exception.line), (Fault.BAD_NAME, 0))
         self.assertEqual(store.pending, 0)
         store.load("a-Z_0.@+", "x" * 64, catalogue)
         self.assertEqual(store.publish(), 1)

@@ -142,7 +142,7 @@ class WatchTest(unittest.TestCase):
         self.put(self.path("fr", "shop.mo"), mo("f2")[:-3])
         self.put(self.path("fr", "a b.po"), po("x"))
         self.until(lambda: len(self.refused) == 3)
-        self.assertEqual({(it.path.name, it.line, it.kind) for it in self.refused[1:]},
+        self.assertEqual({(it.path.name, it.line, it.fault) for it in self.refused[1:]},
                          {("shop.mo", 0, Fault.MO_BOUNDS), ("a b.po", 0, Fault.BAD_NAME)})
         self.put(self.path("fr"), po("f3"))
         self.until(lambda: self.text("fr") == "f3")
@@ -153,7 +153,7 @@ class WatchTest(unittest.TestCase):
         self.put(self.path("de"), b'#, fuzzy\nmsgid "a"\nmsgstr "d"\n')
         self.put(self.path("de", "mail.po"), po("m"))
         self.watch(checked=True, use_fuzzy=True, domains=["shop"])
-        self.assertEqual([it.kind for it in self.refused], [Fault.PO_FORMAT_MISMATCH])
+        self.assertEqual([it.fault for it in self.refused], [Fault.PO_FORMAT_MISMATCH])
         self.assertEqual((self.text("de"), self.text("de", "mail"), self.store.version), ("d", "a", 1))
 
     def test_both_formats(self) -> None:
@@ -202,7 +202,7 @@ class WatchTest(unittest.TestCase):
             self.assertEqual((watch.look(), self.text()), (2 + number, "f1"))
             self.assertIsNone(watch.look())
             self.assertEqual(len(self.refused), number)
-        self.assertEqual((self.refused[0].path, self.refused[0].kind), (self.path("fr"), None))
+        self.assertEqual((self.refused[0].path, self.refused[0].fault), (self.path("fr"), None))
         self.assertIn("no messages", str(self.refused[0]))
         self.put(self.path("fr", "shop.mo"), Catalogue.from_po(header).mo_file())
         self.assertEqual((watch.look(), self.text(), len(self.refused)), (None, "f1", 5))
@@ -264,7 +264,7 @@ class WatchTest(unittest.TestCase):
         """A file whose bytes can't be read (by root neither, so it is the memory of this process) is reported."""
         self.path("fr").symlink_to("/proc/self/mem")
         watch = self.watch(every=30)
-        self.assertEqual([(it.path, it.kind, it.line) for it in self.refused], [(self.path("fr"), None, 0)])
+        self.assertEqual([(it.path, it.fault, it.line) for it in self.refused], [(self.path("fr"), None, 0)])
         self.put(self.path("fr"), po("f"))
         self.assertEqual((watch.look(), self.text()), (1, "f"))
 

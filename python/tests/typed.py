@@ -27,7 +27,7 @@ def catalogues(path: Path) -> None:
     try:
         Catalogue.from_po(memoryview(b""))
     except Refused as refused:
-        assert_type((refused.line, refused.kind, refused.text), tuple[int, kobdzila.Fault, str])
+        assert_type((refused.line, refused.fault, refused.text), tuple[int, kobdzila.Fault, str])
 
 
 def stores() -> None:

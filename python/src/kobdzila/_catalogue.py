@@ -259,8 +259,8 @@ class GNUTranslations(Catalogue, python_gettext.GNUTranslations):
         try:
             self._read_mo(data)
         except Refused as refused:
-            if refused.kind not in READ_BY_PYTHON:
-                raise OSError(0, TEXTS_OF_PYTHON.get(refused.kind, refused.text), name) from refused
+            if refused.fault not in READ_BY_PYTHON:
+                raise OSError(0, TEXTS_OF_PYTHON.get(refused.fault, refused.text), name) from refused
             self._read_by_python(data, name, refused)
         else:
             self._keep_header(header_in(data))

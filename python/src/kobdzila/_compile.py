@@ -57,7 +57,7 @@ def compile_po(data: _kobdzila.Buffer, *, checked: bool = False, use_fuzzy: bool
 
     `checked` runs the checks of `msgfmt -c`, and compares the arguments of messages flagged python-format or
     python-brace-format with those of their translations. `use_fuzzy` also keeps fuzzy messages. Raise Refused, with the
-    kind, the line and the reason, if the file is refused.
+    fault, its line and a description, if the file is refused.
 
     >>> import kobdzila
     >>> file = kobdzila.compile_po('msgid "basket"\\nmsgstr "panier"\\n'.encode())

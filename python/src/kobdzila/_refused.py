@@ -5,7 +5,7 @@ import enum
 
 
 class Fault(enum.IntEnum):
-    """The kinds of refusal, with the numbers of kobdzila.h."""
+    """Why something is refused: the faults of kobdzila.h, with its numbers."""
 
     MO_TOO_LARGE = 1
     MO_SHORT = 2
@@ -52,24 +52,23 @@ class Fault(enum.IntEnum):
 class Refused(ValueError):
     """An MO file, a PO text or a load into a Store was refused.
 
-    `kind` is the kind of refusal, `line` the line of a PO text (0 if the refusal has no line), and `text` a short
-    description.
+    `fault` is the reason, `line` the line of a PO text (0 if the fault has no line), and `text` a short description.
 
     >>> from kobdzila import Catalogue, Refused
     >>> try:
     ...     Catalogue.from_po(b'msgid "basket"\\nmsgstr "pan\\\\y"\\n')
     ... except Refused as refused:
-    ...     print(refused, refused.kind.name)
+    ...     print(refused, refused.fault.name)
     line 2: bad escape PO_BAD_ESCAPE
     """
 
-    kind: Fault
+    fault: Fault
     line: int
     text: str
 
-    def __init__(self, kind: int, line: int, text: str) -> None:
-        super().__init__(kind, line, text)
-        self.kind, self.line, self.text = Fault(kind), line, text
+    def __init__(self, fault: int, line: int, text: str) -> None:
+        super().__init__(fault, line, text)
+        self.fault, self.line, self.text = Fault(fault), line, text
 
     def __str__(self) -> str:
         return f"line {self.line}: {self.text}" if self.line else self.text

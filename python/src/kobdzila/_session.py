@@ -31,11 +31,11 @@ class Answer(NamedTuple):
 
 
 class Refusal(NamedTuple):
-    """Why a load was refused. `kind` is None if the domain or the locale isn't a name."""
+    """Why a load was refused. `fault` is None if the domain or the locale isn't a name."""
 
     domain: str
     locale: str
-    kind: int | None
+    fault: int | None
     line: int | None
 
 
@@ -48,10 +48,10 @@ class LoadRefused(Exception):
     def __init__(self, version: int, refusals: Sequence[Refusal]) -> None:
         super().__init__(version, refusals)
         self.version, self.refusals = version, refusals
-        self.kind, self.line = refusals[0].kind, refusals[0].line
+        self.fault, self.line = refusals[0].fault, refusals[0].line
 
     def __str__(self) -> str:
-        return "; ".join(f"{it.locale} in {it.domain}: kind {it.kind}, line {it.line}" for it in self.refusals)
+        return "; ".join(f"{it.locale} in {it.domain}: fault {it.fault}, line {it.line}" for it in self.refusals)
 
 
 class SessionEnded(Exception):
@@ -257,5 +257,5 @@ def _unescaped(text: str) -> str:
 
 def _refusal(load: tuple[str, str, bytes], line: list[str]) -> Refusal:
     numbers = [None if field == "name" else int(field) for field in line[1:]]
-    kind, place = [*numbers, None, None][:2]
-    return Refusal(load[0], load[1], kind, place)
+    fault, line_number = [*numbers, None, None][:2]
+    return Refusal(load[0], load[1], fault, line_number)

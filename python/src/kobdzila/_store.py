@@ -149,7 +149,7 @@ class Store(_kobdzila.Store):
     ) -> None:
         """Keep an MO file, a PO text or a Catalogue for the next publish.
 
-        The options are those of Catalogue.from_po. Raise Refused, with the kind and the line, if the catalogue or a
+        The options are those of Catalogue.from_po. Raise Refused, with the fault and the line, if the catalogue or a
         name is refused. The store is then unchanged.
 
         >>> import kobdzila
@@ -157,7 +157,7 @@ class Store(_kobdzila.Store):
         >>> try:
         ...     store.load("shop", "fr", b'msgid "basket"\\nmsgstr "pan\\\\y"\\n')
         ... except kobdzila.Refused as refused:
-        ...     print(refused.line, refused.kind.name, store.pending)
+        ...     print(refused.line, refused.fault.name, store.pending)
         2 PO_BAD_ESCAPE 0
         """
         self._load(domain, locale, opened(data, checked, use_fuzzy))

@@ -27,13 +27,13 @@ PATIENCE = 5.0  # seconds that a file which keeps changing delays the others
 
 
 class FileRefused(NamedTuple):
-    """A file that was refused. `line` is 0 if the reason has none. `kind` is None if it wasn't the library that refused
+    """A file that was refused. `line` is 0 if the fault has none. `fault` is None if it wasn't the library that refused
     the file: it can't be read, or it no longer has messages.
     """
 
     path: Path
     line: int
-    kind: Fault | None
+    fault: Fault | None
     text: str
 
     def __str__(self) -> str:
@@ -238,7 +238,7 @@ class Watch(Closing):
         return path in self._seen and self._seen[path].digest == file.digest and other_of(path) not in self._seen
 
     def _refuse(self, path: str, refused: Refused) -> None:
-        self._call(FileRefused(Path(path), refused.line, refused.kind, refused.text))
+        self._call(FileRefused(Path(path), refused.line, refused.fault, refused.text))
 
     def _call(self, file: FileRefused) -> None:
         try:
