@@ -589,6 +589,18 @@ def crates_are_listed():
     return [f"{page} has not: {name}" for page in listed for name in sorted(names) if f"`{name}`" not in read(page)]
 
 
+def tests_are_listed():
+    """tests/README.md says for each crate and each folder of sources which tests to run"""
+    crates, named = re.findall(r"^([a-z]\w*)", read("crates.txt"), re.M), set()
+    changed = "\n".join(row[0] for row in rows(read("tests/README.md")))
+    for first, last in re.findall(r"`crates/(\w+)`(?: to `crates/(\w+)`)?", changed):
+        named.update(crates[crates.index(first) : crates.index(last or first) + 1])
+    folders = [*TOP.glob("c/*/"), *(TOP / it for it in ("bench", "examples", "fuzz", "include", "packaging", "python",
+                                                        "rust", "tools"))]
+    lacking = [f"crates/{it}" for it in crates if it not in named]
+    return lacking + [str(it) for it in sorted(it.relative_to(TOP) for it in folders) if f"`{it}/`" not in changed]
+
+
 def definitions_are_listed():
     """each file of definitions is named on the page of its layer, and the private ones as private"""
     text = "\n".join(path.read_text(encoding="utf-8") for path in sorted(TOP.glob(CRATES)))
@@ -740,6 +752,7 @@ RULES = (
     pictures,
     names_of_pages,
     crates_are_listed,
+    tests_are_listed,
     definitions_are_listed,
     crates_have_readmes,
     names_in_readmes,

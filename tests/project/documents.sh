@@ -127,6 +127,8 @@ docs/internals/glossary.md^`crates/live_versions/src/seal.rt`^`crates/live_versi
 tests/scripts/languages.sh^docs/reference/look-ups.md^docs/FORMATS.md
 docs/man/msgfmt.1^reference/gnu\-differences.md^reference/gnu\-msgfmt.md
 crates.txt^po_text: format_flags^po_words: format_flags
+tests/README.md^, `fuzz/` |^ |
+tests/README.md^`crates/live_set` to `crates/catserve`,^`crates/live_set` to `crates/desks`,
 docs/internals/crates/po.md^`Lexing`, ^
 CONTRIBUTING.md^in one document, and the others link to it. How to do something^in one document and in no more than this one, and the others link to it, and how to do something
 END
