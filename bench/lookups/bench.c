@@ -22,7 +22,7 @@ struct text {
     size_t len;
 };
 
-/* One domain: the catalogue of its MO file, its msgids, one a line, and the same closed by NUL. */
+/* One domain: the catalogue of its MO file, its msgids, one a line, and the same with NULs. */
 struct domain {
     const char *name;
     kob_catalogue *catalogue;

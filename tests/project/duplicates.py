@@ -3,8 +3,8 @@
 
     duplicates.py [FOLDER]      the repository in FOLDER, or in the current folder
 
-A run is eight lines that aren't blank, without their indentation. Where one stands twice, a row of the page's first
-table has to name each file that has it.
+A run is eight lines that are neither blank nor an #include, without their indentation. Where one stands twice, a row of
+the page's first table has to name each file that has it.
 """
 
 import re
@@ -15,7 +15,7 @@ from itertools import chain
 from pathlib import Path
 
 PAGE = "docs/internals/duplicates.md"
-FOLDERS = ("c", "crates", "python", "rust", "tests")
+FOLDERS = ("bench", "c", "crates", "examples", "fuzz", "include", "packaging", "python", "rust", "tests", "tools")
 ENDINGS = (".c", ".h", ".py", ".pyi", ".rs", ".rt", ".sh")
 LENGTH = 8
 NAMED = 4  # findings that the line of a rule names
@@ -29,7 +29,15 @@ def sources(top: Path) -> list[str]:
     else:
         every = chain.from_iterable((top / it).rglob("*") for it in FOLDERS)
         found = [str(it.relative_to(top)) for it in every if it.is_file()]
-    return sorted(it for it in found if it.endswith(ENDINGS) and (top / it).is_file())
+    return sorted(it for it in found if is_source(top / it))
+
+
+def is_source(path: Path) -> bool:
+    """Whether it has the ending of a source, or is a script without one."""
+    if not path.is_file() or path.suffix:
+        return path.is_file() and path.name.endswith(ENDINGS)
+    with path.open("rb") as file:
+        return file.read(2) == b"#!"
 
 
 def repeated(top: Path) -> dict[frozenset[str], str]:
@@ -38,6 +46,7 @@ def repeated(top: Path) -> dict[frozenset[str], str]:
     for name in sources(top):
         text = (top / name).read_text(encoding="utf-8", errors="replace")
         lines = [(at, line.strip()) for at, line in enumerate(text.splitlines(), 1) if line.strip()]
+        lines = [it for it in lines if not it[1].startswith("#include")]
         for start in range(len(lines) - LENGTH + 1):
             run = lines[start : start + LENGTH]
             places[tuple(line for _, line in run)].append((name, run[0][0]))

@@ -13,7 +13,8 @@ python3 -B tests/project/duplicates.py
 top=$room/repo
 mkdir -p "$top/docs/internals"
 cp docs/internals/duplicates.md "$top/docs/internals"
-tar cf - --exclude out --exclude target --exclude build c crates python rust tests | tar xf - -C "$top"
+tar cf - --exclude out --exclude target --exclude build bench c crates examples fuzz include packaging python rust tests \
+  tools | tar xf - -C "$top"
 
 # finds NAME PATTERN: a line FAILED that has the pattern is printed for the copy
 finds() {
