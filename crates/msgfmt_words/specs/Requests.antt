@@ -1,4 +1,4 @@
--- Private: what parsing the arguments returns.
+-- What parsing the arguments returns (GNU gettext manual, "msgfmt Invocation").
 use Rattle.std.specs.Prelude.{◌≡◌, ◌≢◌, ⊤, ℕ, List, option_map}
 use Rattle.clap.specs.declared.error.kind.ErrorKind.{ErrorKind}
 use Rattle.clap.specs.declared.error.kind.ErrorKind.TheVariants as kind
