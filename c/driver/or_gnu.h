@@ -56,7 +56,7 @@ struct part {
 enum recoding { AS_IT_IS, RECODED, NO_CHARACTER, NO_MEMORY };
 
 /* Convert a text to UTF-8, with `UTF-8` in place of the charset's name, if its header names a charset that GNU msgfmt
- * calls portable and that libkobdzila decodes. Its lines then end with LF alone. The caller frees *bytes. */
+ * calls portable and that libkobdzila decodes. The caller frees *bytes. */
 enum recoding recode_text(struct part text, char **bytes, size_t *len);
 
 /* What decides which program compiles a PO text. */

@@ -42,30 +42,11 @@ static bool may_be_recoded(struct part text) {
     return is_portable(at, len);
 }
 
-/* Copy a text without the carriage returns before its newlines. NULL if memory runs out. */
-static char *with_newlines(struct part text, size_t *len) {
-    char *copy = malloc((size_t)(text.end - text.at) + 1), *to = copy;
-    for (const char *at = text.at, *end; copy && at < text.end; at = end) {
-        const char *line_end = memchr(at, '\n', (size_t)(text.end - at));
-        end = line_end ? line_end + 1 : text.end;
-        bool has_return = line_end && line_end > at && line_end[-1] == '\r';
-        to = mempcpy(to, at, (size_t)(end - at) - (has_return ? 2 : 0));
-        if (has_return)
-            *to++ = '\n';
-    }
-    *len = (size_t)(to - copy);
-    return copy;
-}
-
 enum recoding recode_text(struct part text, char **bytes, size_t *len) {
     kob_refusal why;
     if (!has_library() || !may_be_recoded(text))
         return AS_IT_IS;
-    char *lines = with_newlines(text, len);
-    if (!lines)
-        return NO_MEMORY;
-    kob_po_file *file = kob_recode_po(lines, *len, &why);
-    free(lines);
+    kob_po_file *file = kob_recode_po(text.at, (size_t)(text.end - text.at), &why);
     if (!file)
         return why.fault == KOB_MEMORY ? NO_MEMORY : why.fault == KOB_PO_NO_CHARACTER ? NO_CHARACTER : AS_IT_IS;
     kob_text made = kob_po_text(file);

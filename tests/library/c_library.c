@@ -523,6 +523,8 @@ static void mo_charsets(void) {
 /* A text in ISO-8859-1 is decoded, unless it has to be UTF-8. */
 static void charsets(void) {
     static const char latin[] = "msgid \"\"\nmsgstr \"charset=ISO-8859-1\\n\"\nmsgid \"a\"\nmsgstr \"\xfc\"\n";
+    static const char crlf[] = "# K\xf6rner\r\n\r\nmsgid \"\"\r\nmsgstr \"\"\r\n\"charset=ISO-8859-1\\n\"\r\n\r\n"
+                               "msgid \"a\"\r\nmsgstr \"\xfc\"\r\n#, fuzzy\r\nmsgid \"b\"\r\nmsgstr \"c\"\r\n";
     kob_refusal why;
     kob_catalogue *c = kob_open_po(latin, strlen(latin), KOB_CHECKED, &why);
     is("a text in ISO-8859-1 is opened", c != NULL);
@@ -531,6 +533,10 @@ static void charsets(void) {
     kob_release(c);
     c = kob_open_po(latin, strlen(latin), KOB_STRICT, &why);
     is("a strict reader refuses it", !c && why.fault == KOB_PO_NOT_UTF8 && why.line == 4);
+    c = kob_open_po(crlf, strlen(crlf), KOB_CHECKED, &why);
+    is("one whose lines end with CRLF", c && !strcmp(kob_gettext(c, "a"), "\xc3\xbc"));
+    is("its fuzzy message", c && !strcmp(kob_gettext(c, "b"), "b"));
+    kob_release(c);
     mo_charsets();
 }
 

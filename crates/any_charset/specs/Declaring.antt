@@ -1,7 +1,8 @@
 -- The charset that a PO text declares, looked up in its bytes (GNU gettext manual, "Header Entry": Content-Type).
 
 -- The header is looked for where PO files have it, at the front of the text: comments and empty lines, a line
--- `msgid ""`, and the lines of its msgstr, each with one string. A header in another form declares nothing (ours).
+-- `msgid ""`, and the lines of its msgstr, each with one string. Lines end with LF or CRLF; GNU msgfmt takes a CR
+-- for white space. A header in another form declares nothing (ours).
 use Rattle.std.specs.Prelude.{◌≡◌, ℕ, ◌+◌, ◌==◌, ◌||◌, not, nat_eq, Bool, if◌then◌else◌, List, [], ◌∷◌, ◌++◌}
 use Rattle.std.specs.Prelude.{Some, length, take, drop, codes}
 use Rattle.std.specs.List.{starts_with, slice_split, prefix_len}
@@ -14,18 +15,22 @@ use Rattle.any_charset.specs.declared.front.Stage.TheVariants.{Before, AfterMsgi
 
 -- ---- the header at the front
 
--- LF separates lines
+-- LF separates lines; a CR before it stays in the line that it ends
 abbrev pub lines : List ℕ → List (List ℕ)
 lines text = slice_split (λ b. b == 10) text
 
--- an empty line or a comment
+-- an empty line, which may have a CR, or a comment
 abbrev pub is_gap : List ℕ → Bool
-is_gap line = bytes_eq line [] || starts_with nat_eq line (codes "#")
+is_gap line = bytes_eq line [] || bytes_eq line (codes "\r") || starts_with nat_eq line (codes "#")
+
+-- the line of the header's msgid, which may end with a CR
+abbrev pub is_header_msgid : List ℕ → Bool
+is_header_msgid line = bytes_eq line (codes "msgid \"\"") || bytes_eq line (codes "msgid \"\"\r")
 
 -- where a line leads from a stage: before the header's msgid, after it, in the header's msgstr, or elsewhere
 abbrev pub stage_behind : Stage → List ℕ → Stage
 stage_behind Before line =
-    if is_gap line then Before else (if bytes_eq line (codes "msgid \"\"") then AfterMsgid else Elsewhere)
+    if is_gap line then Before else (if is_header_msgid line then AfterMsgid else Elsewhere)
 stage_behind AfterMsgid line = if starts_with nat_eq line (codes "msgstr \"") then InHeader else Elsewhere
 stage_behind InHeader line = if starts_with nat_eq line (codes "\"") then InHeader else Elsewhere
 stage_behind Elsewhere line = Elsewhere

@@ -1,6 +1,6 @@
 //! Whether the front of a text leads into its header.
 ghost use Rattle.std.specs.Prelude.{◌≡◌, ◌∷◌, [], ◌<◌, ◌↔◌, IsTrue, IfSome, length};
-ghost use Rattle.any_charset.specs.Declaring.{is_gap, lines, stage_after, stage_behind};
+ghost use Rattle.any_charset.specs.Declaring.{is_gap, is_header_msgid, lines, stage_after, stage_behind};
 ghost use Rattle.any_charset.specs.LineRest.{lines_left};
 
 use byte_text::offset_of;
@@ -31,11 +31,18 @@ pub(crate) fn split_line(text: &[u8]) -> (&[u8], Option<&[u8]>)
     }
 }
 
-/// Whether a line is empty or a comment.
+/// Whether a line is empty, but for a CR, or a comment.
 fn is_gap(line: &[u8]) -> bool
     ensures { result ≡ is_gap line.now }
 {
-    line.is_empty() || line.starts_with(b"#")
+    line.is_empty() || line == b"\r".as_slice() || line.starts_with(b"#")
+}
+
+/// Whether a line is that of the header's msgid, which may end with a CR.
+fn is_header_msgid(line: &[u8]) -> bool
+    ensures { result ≡ is_header_msgid line.now }
+{
+    line == b"msgid \"\"".as_slice() || line == b"msgid \"\"\r".as_slice()
 }
 
 /// The stage that a line leads to from another.
@@ -44,7 +51,7 @@ fn stage_behind(stage: Stage, line: &[u8]) -> Stage
 {
     match stage {
         Stage::Before if is_gap(line) => Stage::Before,
-        Stage::Before if line == b"msgid \"\"".as_slice() => Stage::AfterMsgid,
+        Stage::Before if is_header_msgid(line) => Stage::AfterMsgid,
         Stage::AfterMsgid if line.starts_with(b"msgstr \"") => Stage::InHeader,
         Stage::InHeader if line.starts_with(b"\"") => Stage::InHeader,
         _ => Stage::Elsewhere,
