@@ -18,7 +18,7 @@ struct kob_notice {
 };
 
 /* A reader is the set that it lends. It is followed by as many bytes as a cache line has, which nobody uses: so what
- * one thread writes at an entry lies in no line that another thread's reader is in. */
+ * one thread writes as it enters lies in no line that another thread's reader is in. */
 struct kob_reader {
     alignas(max_align_t) unsigned long long store;
     kob_set lent;
@@ -135,7 +135,7 @@ kob_reader *kob_store_reader(const kob_store *store) {
     return NULL;
 }
 
-/* The proved library moves a reader out of this memory and back for an entry. If there is nothing new, it need not. */
+/* The proved library moves a reader out of this memory and back to enter. If there is nothing new, it need not. */
 const kob_set *kob_reader_enter(kob_reader *reader) {
     if (!kobdzila_reader_is_current(read_set(&reader->lent)))
         kobdzila_reader_enter(held_set(&reader->lent));

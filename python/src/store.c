@@ -1,6 +1,6 @@
 /* The live store of libkobdzila as a Python type, and what it shares with its snapshots, which are in snapshot.c.
  *
- * A snapshot has a reader of its own as long as it is open, since a reader's answers are valid until its next entry.
+ * A snapshot has a reader of its own as long as it is open, since a reader's answers are valid until it enters again.
  * Readers that no snapshot has are kept for the next one, so a snapshot allocates nothing in the library; they have left
  * their version, so they keep no catalogues. Look-ups and new readers, which wait for nobody, hold the interpreter's
  * lock; loads and publishes release it. */

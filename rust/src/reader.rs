@@ -10,9 +10,9 @@ use crate::sys;
 
 /// One thread's access to a [`Store`](crate::Store).
 ///
-/// [`enter`](Reader::enter) returns a [`Snapshot`] of the newest version, which doesn't change until the next entry.
-/// Enter once for each request, so that the whole response is of one version. Entering allocates nothing, never blocks
-/// and can't fail. A reader's versions never decrease.
+/// [`enter`](Reader::enter) returns a [`Snapshot`] of the newest version, which doesn't change until the reader enters
+/// again. Enter once for each request, so that the whole response is of one version. Entering allocates nothing, never
+/// blocks and can't fail. A reader's versions never decrease.
 ///
 /// ```
 /// use kobdzila::{Catalogue, Domain, Options, Store};
@@ -27,12 +27,12 @@ use crate::sys;
 /// # Ok::<(), Box<dyn std::error::Error>>(())
 /// ```
 ///
-/// A reader is in one entry at a time, so two snapshots of one reader don't compile:
+/// A reader makes one visit at a time, so two snapshots of one reader don't compile:
 ///
 /// ```compile_fail,E0499
 /// # let store = kobdzila::Store::new();
 /// # let mut reader = store.reader().unwrap();
-/// let (first, second) = (reader.enter(), reader.enter()); // error: the reader is in its first entry
+/// let (first, second) = (reader.enter(), reader.enter()); // error: the reader is in its first visit
 /// assert!(first.version() <= second.version());
 /// ```
 ///
@@ -46,7 +46,7 @@ use crate::sys;
 /// });
 /// ```
 ///
-/// A reader keeps the set of its last entry alive, so let a reader that may be idle for long
+/// A reader keeps the set of its last visit alive, so let a reader that may be idle for long
 /// [`leave`](Reader::leave), and drop one that has no more requests.
 pub struct Reader(pub(crate) sys::Reader);
 
@@ -89,8 +89,8 @@ impl Reader {
     ///
     /// It never blocks, and frees nothing: the next [`publish`](crate::Store::publish) or
     /// [`retained`](crate::Store::retained) frees a replaced set that all readers have left, and so does the thread of
-    /// a watch from time to time. The next entry takes a little longer, as after a publish. Dropping a [`Snapshot`]
-    /// doesn't leave, since its answers live as long as the entry.
+    /// a watch from time to time. Entering again takes a little longer, as after a publish. Dropping a [`Snapshot`]
+    /// doesn't leave, since its answers live as long as the visit.
     ///
     /// ```
     /// # let empty = kobdzila::Catalogue::from_po(b"", kobdzila::Options::new())?;
@@ -216,7 +216,7 @@ impl Error for WrongStore {}
 /// let now = reader.enter();
 /// let list = now.languages(kobdzila::Domain("garden"), "fr");
 /// let answer = list.gettext("Winter");
-/// reader.enter(); // error: `answer` may be a string of the first entry
+/// reader.enter(); // error: `answer` may be a string of the first visit
 /// println!("{answer}");
 /// ```
 ///
@@ -283,7 +283,8 @@ impl<'a> Snapshot<'a> {
     }
 
     /// Returns the translation of one message, if there is one. For several of them [`languages`](Snapshot::languages)
-    /// is faster, since it resolves the list once. The answer lives as long as the entry.
+    /// is faster, since it resolves the list once. The answer lives as long as the visit, which ends when the reader
+    /// enters again or leaves.
     ///
     /// ```
     /// use kobdzila::{Domain, Reader};
@@ -299,7 +300,7 @@ impl<'a> Snapshot<'a> {
         self.0.find([domain.0, languages], &question.into())
     }
 
-    /// Resolves a list of languages once, and consumes the snapshot. Its answers live as long as the entry.
+    /// Resolves a list of languages once, and consumes the snapshot. Its answers live as long as the visit.
     ///
     /// ```
     /// use kobdzila::{Domain, Reader};

@@ -135,7 +135,7 @@ impl Store {
 
     /// Frees the replaced sets that no reader is in, and returns how many are left: those that some reader is in.
     ///
-    /// A publish frees such sets as well. A reader has one set at a time, that of its last entry, until it
+    /// A publish frees such sets as well. A reader has one set at a time, that of its last visit, until it
     /// [leaves](Reader::leave). If the number grows, you keep more and more readers that neither enter nor leave.
     ///
     /// ```
@@ -197,7 +197,7 @@ impl fmt::Debug for Store {
 /// The error of a [`Store::publish`] that published nothing, since memory ran out or the store was busy.
 ///
 /// All loads are still pending, and you can publish again. A store is busy if some 60 readers were all interrupted at
-/// the same point of an entry, a few instructions long.
+/// the same point of entering, a few instructions long.
 ///
 /// ```
 /// use kobdzila::{PublishError, Store};

@@ -172,7 +172,7 @@ fn an_entry_stays_as_it_was() {
 }
 
 #[test]
-fn an_answer_lasts_as_long_as_the_entry() {
+fn an_answer_lasts_as_long_as_the_visit() {
     let store = Store::new();
     show(&store, "one");
     let mut reader = store.reader().unwrap();
