@@ -20,6 +20,9 @@
 const char program_name[] = "msgfmt-or-gnu";
 static const char guard[] = "MSGFMT_OR_GNU_RUNS";
 static const char version_line[] = "msgfmt-or-gnu (Kobdzila) " KOBDZILA_VERSION "\n";
+/* The first line without a GNU msgfmt. Build systems take the first number of --version for GNU gettext's: this is the
+ * release whose options are known here. */
+static const char release_line[] = "msgfmt 0.22, by msgfmt-or-gnu\n";
 static const char help_lines[] =
     "\nThis is msgfmt-or-gnu: Kobdzila's msgfmt compiles what it can, and GNU msgfmt everything else.\n"
     "msgfmt-or-gnu --summary LOG prints the table of a log (MSGFMT_OR_GNU_LOG). Its page is msgfmt-or-gnu(1).\n";
@@ -113,7 +116,9 @@ _Noreturn static void end_without_gnu(struct run *run) {
     const struct request *request = run->request;
     if (is_about_itself(request)) {
         const char *lines = own_lines(request) + (request->wants_version ? 0 : 1);
-        _exit(write_all(STDOUT_FILENO, lines, strlen(lines)) ? 0 : 1);
+        size_t first = request->wants_version ? strlen(release_line) : 0;
+        bool done = write_all(STDOUT_FILENO, release_line, first) && write_all(STDOUT_FILENO, lines, strlen(lines));
+        _exit(done ? 0 : 1);
     }
     tell("msgfmt-or-gnu: %s: this needs GNU msgfmt, and there is none on the PATH%s", request->why, in_gettext);
     char why[WHY_SIZE + sizeof "; no GNU msgfmt"];

@@ -360,6 +360,11 @@ none on the PATH; it is in the package gettext" -o x.mo flags.po
 found 'no GNU msgfmt, --version' 0 '' --version
 grep -qx 'msgfmt-or-gnu (Kobdzila) [0-9.]*' out && ok 'driver, no GNU msgfmt, its version' ||
   failed 'driver, no GNU msgfmt, its version' "$(cat out)"
+# (po.m4 reads the version so, and takes one before 0.15 for a msgfmt that knows no msgctxt)
+case $(sed 1q out | sed -e 's,^[^0-9]*,,') in
+  '' | 0.[0-9] | 0.[0-9].* | 0.1[0-4] | 0.1[0-4].*) failed 'driver, no GNU msgfmt, its release' "$(cat out)" ;;
+  *) ok 'driver, no GNU msgfmt, its release' ;;
+esac
 
 KOBDZILA_MSGFMT=$room/none/msgfmt drive -o x.mo ours.po
 judge 'driver, none of ours' 1 "msgfmt-or-gnu: there is no $room/none/msgfmt" && ok 'driver, none of ours'

@@ -4,8 +4,10 @@ msgfmt and for which reason, and whether status and MO file are the same. Run by
 
     tests/msgfmt/real.py FOLDER ..
     tests/msgfmt/real.py --options='-c -f' --options=--check-format FOLDER ..
+    tests/msgfmt/real.py --most 80 FOLDER ..
 
-Without --options each file is compiled with each line of BUILDS, which are the options of build systems. The driver
+Without --options each file is compiled with each line of BUILDS, which are the options of build systems. With --most at
+most so many files of each folder are taken, from its beginning to its end at equal distances. The driver
 (DRIVER=PATH names another one) has no GNU msgfmt on its PATH. Prints two tables of Markdown, for each set of options how
 many files were left to GNU msgfmt for a reason, and how the results compare; then a line for each file whose results
 differ without such a reason, and the status is 1. GNU msgfmt is that of tools/gnu-msgfmt, and msgconv lies beside it.
@@ -133,13 +135,20 @@ def results_of(found: list[Compared]) -> Counter[str]:
     return Counter(f"left to GNU's, and without it {it.result}" if it.reason else it.result for it in found)
 
 
+def files_below(folder: Path, most: int) -> list[Path]:
+    """The PO files below a folder; of more than `most` files at most so many."""
+    found = sorted(it for it in folder.rglob("*.po") if it.is_file() and not it.is_symlink())
+    return found[:: -(-len(found) // most) or 1] if most else found
+
+
 def main() -> int:
     parser = argparse.ArgumentParser()
+    parser.add_argument("--most", type=int, default=0)
     parser.add_argument("--options", action="append")
     parser.add_argument("folders", nargs="+", type=Path)
     words = parser.parse_args()
     gnu = subprocess.run([TOP / "tools/gnu-msgfmt"], capture_output=True, text=True, check=True).stdout.strip()
-    paths = sorted({it for folder in words.folders for it in folder.rglob("*.po") if it.is_file() and not it.is_symlink()})
+    paths = sorted({it for folder in words.folders for it in files_below(folder, words.most)})
     builds = words.options or BUILDS
     with ThreadPoolExecutor(os.cpu_count()) as pool:
         found = [(options, list(pool.map(lambda path: compare(gnu, options, path), paths))) for options in builds]
