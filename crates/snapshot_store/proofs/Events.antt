@@ -1,7 +1,7 @@
 -- Lists of events: their batches, and what was shown.
 use Rattle.std.proofs.Common.{◌≡◌, ℕ, zero, suc, ◌<◌, ◌≤◌, List, [], ◌∷◌, ◌++◌, length, sym, refl, ap, ◌∙◌}
 use Rattle.std.proofs.Common.{subst, arith, max}
-use Rattle.std.proofs.Common.{length-append}
+use Rattle.std.proofs.Common.{length-append, append_assoc}
 use Rattle.std.proofs.lemmas.List.{append-nil}
 use Rattle.std.proofs.Math.Nat.{le-max_left, le-max_right, max-le, max_comm, max-eq_left}
 use mathlib.Core.List.{IsPrefix}
@@ -53,6 +53,9 @@ batches_prefix a z p = (batches_of p.0, sym (batches_of-append a p.0) ∙ ap bat
 
 pub shown_prefix : (a z : List Event) → IsPrefix a z → shown_of a ≤ shown_of z
 shown_prefix a z p = subst (λ (l : List Event). shown_of a ≤ shown_of l) p.1 (shown_more a p.0)
+
+pub prefix_trans : (a b c : List Event) → IsPrefix a b → IsPrefix b c → IsPrefix a c
+prefix_trans a b c p q = (p.0 ++ q.0, sym (append_assoc a p.0 q.0) ∙ (ap (λ l. l ++ q.0) p.1 ∙ q.1))
 
 pub length_prefix : (a z : List Event) → IsPrefix a z → length (batches_of a) ≤ length (batches_of z)
 length_prefix a z p = let q = batches_prefix a z p in

@@ -47,6 +47,13 @@ impl Away {
         }
     }
 
+    /// That the version that was left was shown.
+    pub(crate) fn known(&self) -> &Known
+        ensures { result.now ≡ self.now }
+    {
+        &self.known
+    }
+
     /// The number of loads that are published in the version that was left.
     pub fn version(&self) -> u64
         ensures { result ≡ version_of self.now.batches }

@@ -1,14 +1,16 @@
 //! The batches of a store as its book keeps them, and beginnings of them that were seen.
 //!
-//! A book is a history that exists in proofs alone (`logbook`). Its words are two numbers at run time: how many batches
-//! were made, and how many are shown. A `Seen` is a beginning of the history.
+//! A book is a history that exists in proofs alone (`logbook`). Its words are two numbers at run time: how many turns to
+//! show a version were given, and how many batches are shown. A `Seen` is a beginning of the history. A `Turn` exists in
+//! proofs alone, too.
 ghost use Rattle.std.specs.Prelude.{◌≡◌, ◌≢◌, ◌+◌, ◌*◌, ◌/◌, ◌%◌, ◌<◌, ◌≤◌, ◌^◌, ◌++◌, ◌∷◌, []};
-ghost use Rattle.std.specs.Prelude.{length, MatchBool, IfSome};
+ghost use Rattle.std.specs.Prelude.{length, MatchBool, IfSome, IfOk, IfErr};
 ghost use Rattle.live_loads.specs.Batches.{StartsWith};
+ghost use Rattle.logbook.specs.Pages.{may_make};
 ghost use Rattle.snapshot_store.specs.SlotBook.{head_of, shown_word, shown_of};
 
 use live_set::Load;
-use logbook::{Gain, Offer, Plain, Play, Rule, Start, Word};
+use logbook::{Gain, Offer, Pen, Plain, Play, Rule, Start, Word};
 use std::marker::Model;
 
 /// An entry of a book. No value of this type is ever made.
@@ -25,7 +27,7 @@ impl Model for Event {
     ghost view = { λ _. (0, []) };
 }
 
-/// The rule of a book: its words are how many batches were made, and how many are shown.
+/// The rule of a book: its words are how many turns were given, and how many batches are shown.
 pub(crate) struct BookRule;
 
 impl Rule<Event, u64> for BookRule {
@@ -55,7 +57,16 @@ impl Gain<Event, u64> for Nothing {
     ghost after = { λ names about answer. ftrue };
 }
 
-/// A step that adds the batch that was offered.
+/// A step that gives the first turn.
+struct Beginning;
+
+impl Play<Event, u64> for Beginning {
+    ghost use Rattle.snapshot_store.specs.SlotBook.{Begins};
+
+    ghost then = { λ s v found w. Begins s v found w };
+}
+
+/// A step that adds the batch that was offered, and gives a turn.
 struct Adding;
 
 impl Play<Event, u64> for Adding {
@@ -80,6 +91,15 @@ impl Play<Event, u64> for Looking {
     ghost use Rattle.snapshot_store.specs.SlotBook.{Looks};
 
     ghost then = { λ s v found w. Looks s v found w };
+}
+
+/// A step that changes nothing.
+struct Waiting;
+
+impl Play<Event, u64> for Waiting {
+    ghost use Rattle.snapshot_store.specs.SlotBook.{Waits};
+
+    ghost then = { λ s v found w. Waits s v found w };
 }
 
 /// What a step offers: the loads of a batch, or the number of a version.
@@ -161,6 +181,35 @@ impl Model for Known {
         × (length (batches_of k.version.log) ≤ shown_of k.shown.log) };
 }
 
+/// The right to show one version more. While it isn't used, no more batches are shown than it says. It has no bytes.
+/// Contracts see it as its book and that number.
+#[derive(Drop)]
+pub(crate) struct Turn {
+    pen: Pen,
+}
+
+impl Model for Turn {
+    ghost use Rattle.std.specs.Prelude.{◌≡◌, ◌≤◌, ◌-◌};
+    ghost use Rattle.logbook.specs.Pages.{may_write};
+    ghost use Rattle.snapshot_store.specs.SlotBook.{TurnValue};
+
+    ghost Value = { TurnValue };
+
+    ghost view = { λ t. record { book = t.pen.book; shown = t.pen.nib.key - 2 } };
+
+    ghost invariant = { λ t. (t.pen.nib.right ≡ may_write) × (2 ≤ t.pen.nib.key) };
+}
+
+/// The turn that the pen is for.
+fn turn_of(mut pen: Pen) -> Turn
+    requires { (pen.nib.right ≡ may_make) × (2 ≤ pen.nib.key) }
+    ensures { (result.book ≡ pen.book) × (result.shown + 2 ≡ pen.nib.key) }
+{
+    let word: Word<Event, u64, BookRule> = Word::tracked(0, &mut pen);
+    drop(word);
+    Turn { pen }
+}
+
 /// A new book, and its empty beginning.
 pub(crate) fn open_book() -> (Head, Shown, Seen)
     ensures batches { result.2.batches ≡ [] }
@@ -218,12 +267,34 @@ impl Seen {
     }
 }
 
-/// Adds a batch after all that was seen. Returns `None` if the book has moved on.
-pub(crate) fn add_batch(head: &Head, seen: &Seen, batch: &Vec<Load>) -> Option<Seen>
+/// The turn to show the first batch. Returns `None` if it was given before.
+pub(crate) fn first_turn(head: &Head, seen: &Seen) -> Option<Turn>
+    requires { head.now.word.book ≡ seen.now.book }
+    ensures { IfSome result (λ turn. (turn.book ≡ seen.now.book) × (turn.shown ≡ 0)) }
+{
+    let mut beginning = seen.beginning.again();
+    let none = 0u64;
+    let mut offer: Offer<Event, u64, BookRule, Nothing> = beginning.plain::<Nothing, u64, Offered>(
+        &none,
+    );
+    let mut pen = beginning.no_pen();
+    let found = head
+        .word
+        .compare_exchange::<Beginning, Nothing>(0, 1, &mut beginning, &mut offer, &mut pen);
+    if found != 0 {
+        return None;
+    }
+    Some(turn_of(pen))
+}
+
+/// Adds a batch after all that was seen, and gives the turn to show what comes after it. Returns `None` if the book has
+/// moved on.
+pub(crate) fn add_batch(head: &Head, seen: &Seen, batch: &Vec<Load>) -> Option<(Seen, Turn)>
     requires book { head.now.word.book ≡ seen.now.book }
     requires room { length seen.now.batches + 1 < 2 ^ 58 }
-    ensures { IfSome result (λ f. f
+    ensures seen { IfSome result (λ r. r.0
         ≡ record { book = seen.now.book; batches = seen.now.batches ++ batch.now.items ∷ [] }) }
+    ensures turn { IfSome result (λ r. (r.1.book ≡ seen.now.book) × (r.1.shown ≡ length seen.now.batches + 1)) }
 {
     let mut beginning = seen.beginning.again();
     let mut offer: Offer<Event, u64, BookRule, Nothing> = beginning.plain::<
@@ -232,18 +303,18 @@ pub(crate) fn add_batch(head: &Head, seen: &Seen, batch: &Vec<Load>) -> Option<S
         Offered,
     >(batch);
     let mut pen = beginning.no_pen();
-    let old = seen.batch_count;
-    let new = old + 1;
+    let old = seen.batch_count + 1;
     let found = head
         .word
-        .compare_exchange::<Adding, Nothing>(old, new, &mut beginning, &mut offer, &mut pen);
+        .compare_exchange::<Adding, Nothing>(old, old + 1, &mut beginning, &mut offer, &mut pen);
     if found != old {
         return None;
     }
-    Some(Seen {
-        batch_count: new,
+    let grown = Seen {
+        batch_count: old,
         beginning,
-    })
+    };
+    Some((grown, turn_of(pen)))
 }
 
 impl Known {
@@ -280,30 +351,38 @@ impl Known {
     }
 }
 
-/// Shows a version, which is in slot `at`, in place of the one that `old` names, which is in another slot. Returns
-/// `None` if the word isn't `old`.
-pub(crate) fn show(shown: &Shown, version: &Seen, old: u64, at: u64) -> Option<Known>
+/// Shows a version, which is in slot `at`, in place of the one that `old` names, which is in another slot. It uses the
+/// turn. Gives it back if the word isn't `old`.
+pub(crate) fn show(
+    shown: &Shown,
+    version: &Seen,
+    old: u64,
+    at: u64,
+    turn: Turn,
+) -> Result<Known, Turn>
     requires book { shown.now.word.book ≡ version.now.book }
     requires slot { at < 64 }
     requires other { at ≢ old % 64 }
-    requires next { (old / 64 ≤ length version.now.batches) × (0 < length version.now.batches) }
+    requires turn { (turn.book ≡ version.now.book) × (turn.shown ≡ old / 64) }
+    requires next { length version.now.batches ≡ old / 64 + 1 }
     requires room { length version.now.batches < 2 ^ 58 }
-    ensures { IfSome result (λ known. known ≡ version.now) }
+    ensures ok { IfOk result (λ known. known ≡ version.now) }
+    ensures err { IfErr result (λ back. back ≡ turn) }
 {
     let mut beginning = version.beginning.again();
     let batch_count = version.batch_count;
     let mut offer: Offer<Event, u64, BookRule, Nothing> = beginning.plain::<Nothing, u64, Offered>(
         &batch_count,
     );
-    let mut pen = beginning.no_pen();
+    let Turn { mut pen } = turn;
     let new = batch_count * 64 + at;
     let found = shown
         .word
         .compare_exchange::<Showing, Nothing>(old, new, &mut beginning, &mut offer, &mut pen);
     if found != old {
-        return None;
+        return Err(Turn { pen });
     }
-    Some(Known {
+    Ok(Known {
         version: version.beginning.again(),
         shown: beginning,
     })
@@ -335,4 +414,24 @@ pub(crate) fn tie(version: &Seen, known: &Known)
 {
     let mut both = version.beginning.again();
     both.learn(&known.version);
+}
+
+/// What was shown is a beginning of the version up to which the turn says that batches are shown. It changes nothing.
+pub(crate) fn wait(head: &Head, version: &Seen, turn: &mut Turn, known: &Known)
+    requires book { (head.now.word.book ≡ version.now.book) × (turn.old.book ≡ version.now.book) }
+    requires known { known.now.book ≡ version.now.book }
+    requires all { length version.now.batches ≡ turn.old.shown }
+    ensures same { turn.new ≡ turn.old }
+    ensures begins { StartsWith version.now.batches known.now.batches }
+{
+    let mut both = version.beginning.again();
+    both.learn(&known.version);
+    both.learn(&known.shown);
+    let none = 0u64;
+    let mut offer: Offer<Event, u64, BookRule, Nothing> = both.plain::<Nothing, u64, Offered>(
+        &none,
+    );
+    let _ = head
+        .word
+        .compare_exchange::<Waiting, Nothing>(0, 0, &mut both, &mut offer, &mut turn.pen);
 }

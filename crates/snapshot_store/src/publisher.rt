@@ -1,13 +1,14 @@
 //! The publisher: what it loads is pending until it publishes.
-ghost use Rattle.std.specs.Prelude.{◌≡◌, ◌≢◌, ◌≤◌, ◌↔◌, ◌++◌, ◌∷◌, [], length, MatchBool, IsTrue};
+ghost use Rattle.std.specs.Prelude.{◌≡◌, ◌≢◌, ◌≤◌, ◌<◌, ◌+◌, ◌/◌, ◌%◌, ◌^◌, ◌↔◌, ◌++◌, ◌∷◌, [], length, MatchBool, IsTrue};
 ghost use Rattle.std.specs.Prelude.{IfOk, IfErr, OnOk, OnErr};
 ghost use Rattle.std.specs.Arc.{arc_value};
-ghost use Rattle.live_loads.specs.Batches.{version_of, published};
+ghost use Rattle.live_loads.specs.Batches.{StartsWith, version_of, published};
 ghost use Rattle.live_loads.specs.Store.{AreNames, HasRoom, IsWithin, AddsLoad, room_of};
 ghost use Rattle.snapshot_store.specs.Holding.{holding, most_loads};
-ghost use Rattle.snapshot_store.specs.declared.fault.PublishFault.TheVariants.{Spent};
+ghost use Rattle.snapshot_store.specs.declared.fault.PublishFault.TheVariants.{Memory, Spent};
 
-use crate::book::{Head, Known, Seen, open_book, show, shown_after};
+use crate::away::Away;
+use crate::book::{Head, Known, Seen, Turn, first_turn, open_book, show, shown_after, wait};
 use crate::entrance::Entrance;
 use crate::fault::{OpenFault, PublishFault};
 use crate::notice::Notice;
@@ -20,6 +21,7 @@ use live_loads::Room;
 use live_set::Load;
 use std::alloc::{AllocError, Global};
 use std::marker::Model;
+use std::mem::replace;
 use std::sync::Arc;
 
 /// The number of loads that a store takes.
@@ -36,6 +38,8 @@ pub struct Publisher {
     /// The empty beginning of the store's book.
     beginning: Seen,
     known: Known,
+    /// Only who has it shows a version, so readers see no more than what is published.
+    turn: Turn,
     pending: Vec<Load>,
 }
 
@@ -54,6 +58,7 @@ impl Model for Publisher {
         × ((arc_value p.shared).shown.word.book ≡ p.snapshots.book)
         × (p.beginning.batches ≡ []) × (p.beginning.book ≡ p.snapshots.book)
         × (p.known ≡ p.snapshots)
+        × (p.turn.book ≡ p.snapshots.book) × (p.turn.shown ≡ length p.snapshots.batches)
         × (version_of p.snapshots.batches + length p.pending.items ≤ most_loads) };
 }
 
@@ -62,6 +67,10 @@ pub fn open_store(alloc: Global) -> Result<Publisher, OpenFault>
     ensures { IfOk result (λ p. (p ≡ holding p.seen []) × (p.seen.batches ≡ [])) }
 {
     let (head, shown, beginning) = open_book();
+    // Nobody has the book yet; but no proof knows that the first turn wasn't given.
+    let Some(turn) = first_turn(&head, &beginning) else {
+        return Err(OpenFault::Memory);
+    };
     let snapshots = Snapshots::first(alloc, &beginning)?;
     let shared = Arc::new(
         alloc,
@@ -74,6 +83,7 @@ pub fn open_store(alloc: Global) -> Result<Publisher, OpenFault>
         snapshots,
         beginning,
         known,
+        turn,
         pending: Vec::new(alloc),
     })
 }
@@ -161,6 +171,34 @@ impl Publisher {
         self.snapshots.current().seen().is_same(reader.seen())
     }
 
+    /// What a reader of this store has seen is a beginning of what is published. It tells callers so, and changes
+    /// nothing. No publish is running meanwhile, since it needs the publisher.
+    pub fn bounds(&mut self, reader: &Reader)
+        requires { reader.now.book ≡ self.old.seen.book }
+        ensures same { self.new ≡ self.old }
+        ensures begins { StartsWith self.new.seen.batches reader.now.batches }
+    {
+        self.bounds_known(reader.known());
+    }
+
+    /// Like `bounds`, of a reader that has left.
+    pub fn bounds_away(&mut self, away: &Away)
+        requires { away.now.book ≡ self.old.seen.book }
+        ensures same { self.new ≡ self.old }
+        ensures begins { StartsWith self.new.seen.batches away.now.batches }
+    {
+        self.bounds_known(away.known());
+    }
+
+    fn bounds_known(&mut self, known: &Known)
+        requires { known.now.book ≡ self.old.seen.book }
+        ensures same { self.new ≡ self.old }
+        ensures begins { StartsWith self.new.seen.batches known.now.batches }
+    {
+        let seen = self.snapshots.current().seen();
+        wait(&self.head, seen, &mut self.turn, known);
+    }
+
     /// How many loads are accepted, of how many.
     pub(crate) fn room(&self) -> Room
         ensures is { result ≡ room_of self.now }
@@ -239,8 +277,8 @@ impl Publisher {
         let Some((at, claim)) = self.shared.any_room(word) else {
             return Err(PublishFault::Busy);
         };
-        // Nothing below fails, since a store has one publisher; but no proof knows that.
-        let Some(snapshot) = self
+        // Nothing below fails, since a store has one publisher; but no proof says that.
+        let Some((snapshot, next)) = self
             .snapshots
             .current()
             .next(&self.head, &self.pending, set)
@@ -257,25 +295,43 @@ impl Publisher {
             return Err(PublishFault::Memory);
         };
         drop(claim.put(Some(Held { snapshot: room }), PRESENT));
-        let Some(known) = show(&self.shared.shown, mine.seen(), word, at) else {
-            return Err(PublishFault::Memory);
-        };
-        self.shared.empty_others(at);
-        self.turn(mine, known);
-        Ok(())
+        self.go_on(mine, word, at, next)
     }
 
-    /// From now on this version is the one that is shown, and nothing is pending.
+    /// Shows the version, which is in slot `at`, in place of the one that the word names. From then on it is the one
+    /// that is published, and nothing is pending.
     #[tactic(auto, using(crate::proofs::Growing::version_added))]
-    fn turn(&mut self, snapshot: Arc<Snapshot>, known: Known)
+    fn go_on(
+        &mut self,
+        snapshot: Arc<Snapshot>,
+        word: u64,
+        at: u64,
+        next: Turn,
+    ) -> Result<(), PublishFault>
         requires snapshot { arc_value snapshot ≡ record {
           book = self.old.seen.book;
           batches = self.old.seen.batches ++ self.old.pending ∷ [];
         } }
-        requires known { known ≡ arc_value snapshot }
-        ensures { self.new ≡ holding (arc_value snapshot) [] }
+        requires slot { (at < 64) × (at ≢ word % 64) }
+        requires word { length self.old.seen.batches ≡ word / 64 }
+        requires room { length self.old.seen.batches + 1 < 2 ^ 58 }
+        requires next { (next.book ≡ self.old.seen.book) × (next.shown ≡ length self.old.seen.batches + 1) }
+        ensures ok { OnOk result (self.new ≡ holding (arc_value snapshot) []) }
+        ensures err { OnErr result (self.new ≡ self.old) }
+        ensures fault { IfErr result (λ fault. fault ≡ Memory) }
     {
-        self.known = known;
-        self.snapshots.advance(snapshot, &mut self.pending);
+        let turn = replace(&mut self.turn, next);
+        match show(&self.shared.shown, snapshot.seen(), word, at, turn) {
+            Ok(known) => {
+                self.shared.empty_others(at);
+                self.known = known;
+                self.snapshots.advance(snapshot, &mut self.pending);
+                Ok(())
+            }
+            Err(turn) => {
+                self.turn = turn;
+                Err(PublishFault::Memory)
+            }
+        }
     }
 }

@@ -55,6 +55,13 @@ impl Reader {
         self.snapshot.seen()
     }
 
+    /// That this snapshot was shown.
+    pub(crate) fn known(&self) -> &Known
+        ensures { result.now ≡ self.now }
+    {
+        &self.known
+    }
+
     /// Whether an entry would find nothing new. It costs one load, as such an entry does, and moves nothing. What it
     /// returns depends on other threads, so no clause says it.
     pub fn is_current(&self) -> bool {

@@ -4,7 +4,7 @@ ghost use Rattle.live_set.specs.Sets.{with_load, fold as fold_of};
 ghost use Rattle.live_loads.specs.Batches.{StartsWith, joined, version_of};
 ghost use Rattle.snapshot_store.specs.Holding.{IsSetOf};
 
-use crate::book::{Head, Seen, add_batch};
+use crate::book::{Head, Seen, Turn, add_batch};
 use live_set::{CatalogueSet, Load};
 use std::alloc::{AllocError, Global};
 use std::marker::Model;
@@ -99,20 +99,29 @@ impl Snapshot {
         self.set.try_clone(alloc)
     }
 
-    /// The next version, which has the batch and this set. Returns `None` if the book has moved on.
-    pub(crate) fn next(&self, head: &Head, batch: &Vec<Load>, set: CatalogueSet) -> Option<Snapshot>
+    /// The next version, which has the batch and this set, and the turn to show the one after it. Returns `None` if the
+    /// book has moved on.
+    pub(crate) fn next(
+        &self,
+        head: &Head,
+        batch: &Vec<Load>,
+        set: CatalogueSet,
+    ) -> Option<(Snapshot, Turn)>
         requires book { head.now.word.book ≡ self.now.book }
         requires room { length self.now.batches + 1 < 2 ^ 58 }
         requires loads { version_of self.now.batches + length batch.now.items < 2 ^ 64 }
         requires set { set ≡ fold_of (joined (self.now.batches ++ batch.now.items ∷ [])) }
-        ensures { IfSome result (λ v. v
+        ensures version { IfSome result (λ r. r.0
             ≡ record { book = self.now.book; batches = self.now.batches ++ batch.now.items ∷ [] }) }
+        ensures turn { IfSome result (λ r. (r.1.book ≡ self.now.book)
+            × (r.1.shown ≡ length self.now.batches + 1)) }
     {
-        let seen = add_batch(head, &self.seen, batch)?;
-        Some(Snapshot {
+        let (seen, turn) = add_batch(head, &self.seen, batch)?;
+        let next = Snapshot {
             seen,
             version: self.version + batch.len() as u64,
             set,
-        })
+        };
+        Some((next, turn))
     }
 }
