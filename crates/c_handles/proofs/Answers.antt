@@ -24,6 +24,7 @@ use Rattle.c_stores.specs.declared.stores.HeldNotice.{HeldNotice}
 use Rattle.c_handles.specs.Calls.{Handle, Unused, Open, Closed, Handles, Call, OpensStore, Loads, Publishes, Reclaims}
 use Rattle.c_handles.specs.Calls.{CountsStore, ClosesStore, MakesNotice, ClosesNotice, MakesEntrance, ClosesEntrance}
 use Rattle.c_handles.specs.Calls.{MakesReader, Enters, EntersAfter, Leaves, Looks, LooksAt, CountsReader, ClosesReader}
+use Rattle.c_handles.specs.Calls.{AgreesWith}
 use Rattle.c_handles.specs.Calls.{IsOpen, IsUnused, Makes, Turns, IsMadeAt, EntersIn, EntersAfterIn, DoesToReaders}
 use Rattle.c_handles.specs.Calls.{IsTrace}
 use Rattle.c_handles.specs.HandleActs.{Look, AreAnswered, ends_entry, look_in, looks_in}
@@ -227,6 +228,7 @@ looks_step v k h (LooksAt n domain languages places question text) next is now =
       stays = λ fails. subst (λ (f : ℕ → Handle HeldSet). IsIn v (f k)) (sym is.1) now;
     }
 looks_step v k h (CountsReader n which number) next is now = same_readers v k h.readers next is.1 now
+looks_step v k h (AgreesWith store n) next is now = same_readers v k h.readers next is.1 now
 looks_step v k h (ClosesReader n) next is now = record {
   answered = tt;
   stays = changed k n h.readers next (λ b x. b ≡ false → IsIn v x) is.others (λ fails. now)

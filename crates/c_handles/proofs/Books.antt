@@ -19,6 +19,7 @@ use Rattle.std.specs.declared.sync.Arc.{Arc}
 use Rattle.c_handles.specs.Calls.{Handle, Unused, Open, Closed, Handles, Call, OpensStore, Loads, Publishes, Reclaims}
 use Rattle.c_handles.specs.Calls.{CountsStore, ClosesStore, MakesNotice, ClosesNotice, MakesEntrance, ClosesEntrance}
 use Rattle.c_handles.specs.Calls.{MakesReader, Enters, EntersAfter, Leaves, Looks, LooksAt, CountsReader, ClosesReader}
+use Rattle.c_handles.specs.Calls.{AgreesWith}
 use Rattle.c_handles.specs.Calls.{IsOpen, IsClosed, IsUnused, Makes, Turns, Closes, LoadsInto, PublishesIn}
 use Rattle.c_handles.specs.Calls.{IsMadeAt, EntersIn, EntersAfterIn, DoesToStores, DoesToEntrances, DoesToReaders}
 use Rattle.c_handles.specs.Calls.{IsTrace}
@@ -181,6 +182,7 @@ store_step k h (LooksAt reader domain languages places question text) next is =
 store_step k h (CountsReader reader which number) next is =
     none_at IsSameStore (λ v. same_store v.publisher) k h.stores next is
 store_step k h (ClosesReader reader) next is = none_at IsSameStore (λ v. same_store v.publisher) k h.stores next is
+store_step k h (AgreesWith n reader) next is = none_at IsSameStore (λ v. same_store v.publisher) k h.stores next is
 
 pub stores_keep : (k : ℕ) (calls : List Call) (h last : Handles) → IsTrace h calls last
     → Keeps IsSameStore (h.stores k) (last.stores k)
@@ -225,6 +227,7 @@ entrance_step k h (LooksAt reader domain languages places question text) next is
 entrance_step k h (CountsReader reader which number) next is =
     none_at IsSameEntrance (λ v. refl) k h.entrances next is
 entrance_step k h (ClosesReader reader) next is = none_at IsSameEntrance (λ v. refl) k h.entrances next is
+entrance_step k h (AgreesWith n reader) next is = none_at IsSameEntrance (λ v. refl) k h.entrances next is
 
 pub entrances_keep : (k : ℕ) (calls : List Call) (h last : Handles) → IsTrace h calls last
     → Keeps IsSameEntrance (h.entrances k) (last.entrances k)
@@ -330,6 +333,8 @@ reader_step k h (CountsReader n which number) next is =
     none_at IsSameReader (λ v. same_reader (any_reader_in v.origin)) k h.readers next is.1
 reader_step k h (ClosesReader n) next is =
     closed_at_n IsSameReader (λ v. same_reader (any_reader_in v.origin)) k n h.readers next is
+reader_step k h (AgreesWith store n) next is =
+    none_at IsSameReader (λ v. same_reader (any_reader_in v.origin)) k h.readers next is.1
 reader_step k h (OpensStore n fault) next is =
     none_at IsSameReader (λ v. same_reader (any_reader_in v.origin)) k h.readers next is
 reader_step k h (Loads n domain locale file fault) next is =

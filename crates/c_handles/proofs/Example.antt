@@ -17,7 +17,7 @@ use Rattle.c_sets.specs.declared.sets.HeldSet.{HeldSet}
 use Rattle.c_sets.specs.declared.sets.Origin.TheVariants.{Lent, Left}
 use Rattle.c_stores.specs.declared.stores.HeldStore.{HeldStore}
 use Rattle.c_handles.specs.Calls.{Handle, Open, Closed, Handles, OpensStore, MakesEntrance, MakesReader, Loads}
-use Rattle.c_handles.specs.Calls.{Publishes, MakesNotice, EntersAfter, Leaves, ClosesReader, ClosesStore}
+use Rattle.c_handles.specs.Calls.{Publishes, MakesNotice, EntersAfter, Leaves, ClosesReader, ClosesStore, AgreesWith}
 use Rattle.c_handles.specs.Calls.{OthersStay, IsStep, IsTrace, no_handles}
 use Rattle.c_handles.specs.Example.{first_calls, FirstCallsArePossible}
 
@@ -200,6 +200,15 @@ module _ (book : Book) (domain locale : List ℕ) (opened : Opened) (shared : Ar
     readers = record { turned = ((refl, refl), refl); others = others_stay (Open out) h7.readers };
   }
 
+  agreed : IsStep h8 (AgreesWith 0 0) h8
+  unfolding with_first
+  agreed = record {
+    stores = refl;
+    notices = refl;
+    entrances = refl;
+    readers = ((λ one. begins_refl all_seen.batches), refl);
+  }
+
   step9 : IsStep h8 (ClosesReader 0) h9
   unfolding with_first
   step9 = record {
@@ -228,7 +237,11 @@ module _ (book : Book) (domain locale : List ℕ) (opened : Opened) (shared : Ar
       (
         h3,
         step3,
-        (h4, step4 names, (h5, step5, (h6, step6, (h7, step7, (h8, step8, (h9, step9, (h10, step10, refl))))))),
+        (
+          h4,
+          step4 names,
+          (h5, step5, (h6, step6, (h7, step7, (h8, step8, (h8, agreed, (h9, step9, (h10, step10, refl))))))),
+        ),
       ),
     ),
   )

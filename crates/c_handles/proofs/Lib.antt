@@ -7,4 +7,5 @@ pub mod Texts
 pub mod Books
 pub mod Provenance
 pub mod OneHistory
+pub mod Closings
 pub mod Example

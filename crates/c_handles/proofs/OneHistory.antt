@@ -1,12 +1,12 @@
 -- The law of handles: the work of a store and the acts of its readers are put into one history.
 use Rattle.std.specs.List.{AllZip, AllByRecursion}
 use Rattle.std.specs.Prelude.{⊤, Option, None, Some, MatchOption}
-use Rattle.std.proofs.Common.{◌≡◌, ℕ, zero, suc, List, [], ◌∷◌, map, refl, sym, subst}
+use Rattle.std.proofs.Common.{◌≡◌, ℕ, zero, suc, List, [], ◌∷◌, ◌++◌, map, refl, sym, ap, ◌∙◌, subst}
 use Rattle.live_set.specs.Loads.{LoadValue}
 use Rattle.live_loads.specs.Batches.{StartsWith}
 use Rattle.live_loads.specs.Seen.{SeenValue}
 use Rattle.live_loads.specs.Store.{StoreValue}
-use Rattle.live_loads.proofs.Joining.{begins_nil, begins_refl, begins_trans}
+use Rattle.live_loads.proofs.Joining.{begins_nil, begins_trans}
 use Rattle.live_versions.specs.History.{Event, opened}
 use Rattle.life.specs.Acts.{Act}
 use Rattle.life.specs.Reached.{lists_of, HasWorked, HasActed, Reached}
@@ -16,11 +16,12 @@ use Rattle.life.proofs.OneLife.{one_life}
 use Rattle.c_answers.specs.Numbers.{memory_fault}
 use Rattle.c_sets.specs.Making.{any_reader_in}
 use Rattle.c_sets.specs.declared.sets.HeldSet.{HeldSet}
-use Rattle.c_handles.specs.Calls.{Handle, Unused, Open, Closed, Handles, Call, no_handles, IsTrace, store_in, view_in}
+use Rattle.c_handles.specs.Calls.{Handle, Unused, Open, Closed, Handles, Call, AgreesWith, no_handles, IsOpen, IsStep}
+use Rattle.c_handles.specs.Calls.{AgreesIn, IsTrace, store_in, view_in}
 use Rattle.c_stores.specs.declared.stores.HeldStore.{HeldStore}
 use Rattle.c_handles.specs.HandleActs.{ReaderAct, work_in, acts_in, IsStepOf}
-use Rattle.c_handles.specs.OneHistory.{IsReaderOf, HasBookOf, AreOfOneBook, acts_of}
-use Rattle.c_handles.specs.OneHistory.{ReadersGoOn, LevelReadersAgree, HandlesHaveOneHistory}
+use Rattle.c_handles.specs.OneHistory.{IsReaderOf, HasBookOf, IsHistoryOf, agreements, acts_of}
+use Rattle.c_handles.specs.OneHistory.{ReadersGoOn, HandlesHaveOneHistory}
 use Rattle.c_handles.proofs.Provenance.{readers_stay}
 use Rattle.c_handles.proofs.Work.{WorkedIn, Worked, work_all}
 use Rattle.c_handles.proofs.Entries.{ReaderLeadsAll, plain, plain_leads_all, goes_on}
@@ -31,6 +32,11 @@ worked_in : (work : List Event) (x : Handle HeldStore) → Worked work x → Wor
 worked_in work Unused worked = tt
 worked_in work (Open held) worked = worked
 worked_in work (Closed held) worked = worked
+
+-- what these readers have seen, if they have the store's book, is a beginning of what is published
+abbrev AreOfOneBook : StoreValue → Handles → List ℕ → Type 0
+AreOfOneBook s h readers = AllByRecursion (λ reader. MatchOption (view_in (h.readers reader)) ⊤
+    (λ view. view.book ≡ s.seen.book → StartsWith s.seen.batches view.batches)) readers
 
 -- ---- a reader of the store
 
@@ -114,19 +120,68 @@ readers_go_on trace h reader is =
     let all : Leads [] (acts_in reader trace) (h.readers reader) = acts_lead [] reader trace no_handles h is refl in
     goes_on 0 [] (acts_in reader trace) all.0 refl all.1
 
-level_agrees : (s : StoreValue) (view : Option SeenValue) → MatchOption view ⊤ (λ v. v ≡ s.seen)
+-- ---- the store and its readers at hand
+
+-- a trace of two parts
+record Parts (h : Handles) (first rest : List Call) (last : Handles) : Type 0 where
+  pub between : Handles
+  pub one : IsTrace h first between
+  pub two : IsTrace between rest last
+
+split : (first rest : List Call) (h last : Handles) → IsTrace h (first ++ rest) last → Parts h first rest last
+split [] rest h last is = record { between = h; one = refl; two = is }
+split (call ∷ calls) rest h last (next, step, is) =
+    let more : Parts next calls rest last = split calls rest next last is in
+    record { between = more.between; one = (next, step, more.one); two = more.two }
+
+unmoved : (h after : Handles) (store reader : ℕ) → IsStep h (AgreesWith store reader) after → after ≡ h
+unmoved h after store reader step = λ i. record {
+  stores = step.stores i;
+  notices = step.notices i;
+  entrances = step.entrances i;
+  readers = step.readers.1 i;
+}
+
+all_unmoved : (store : ℕ) (readers : List ℕ) (h last : Handles) → IsTrace h (agreements store readers) last → last ≡ h
+all_unmoved store [] h last is = is
+all_unmoved store (r ∷ rs) h last (next, step, rest) = all_unmoved store rs next last rest ∙ unmoved h next store r step
+
+agreed_view : (s : StoreValue) (view : Option SeenValue)
+    → (MatchOption view ⊤ (λ v. v.book ≡ s.seen.book)
+    → MatchOption view ⊤ (λ v. StartsWith s.seen.batches v.batches))
     → MatchOption view ⊤ (λ v. v.book ≡ s.seen.book → StartsWith s.seen.batches v.batches)
-level_agrees s None level = tt
-level_agrees s (Some v) level = λ book. subst (λ (x : SeenValue). StartsWith s.seen.batches x.batches) (sym level)
-    (begins_refl s.seen.batches)
+agreed_view s None agrees = tt
+agreed_view s (Some v) agrees = agrees
 
-pub level_readers_agree : LevelReadersAgree
-level_readers_agree s h [] level = tt
-level_readers_agree s h (r ∷ rs) level =
-    (level_agrees s (view_in (h.readers r)) level.0, level_readers_agree s h rs level.1)
+agreed_with : (s : StoreValue) (x : Handle HeldStore) (y : Handle HeldSet) → store_in x ≡ Some s
+    → IsOpen (λ store. IsOpen (AgreesIn store) y) x
+    → MatchOption (view_in y) ⊤ (λ v. v.book ≡ s.seen.book → StartsWith s.seen.batches v.batches)
+agreed_with s Unused y is agrees = absurd agrees
+agreed_with s (Closed held) y is agrees = absurd agrees
+agreed_with s (Open held) Unused is agrees = absurd agrees
+agreed_with s (Open held) (Closed r) is agrees = absurd agrees
+agreed_with s (Open held) (Open r) is agrees =
+    agreed_view s (any_reader_in r.origin) (subst (λ (p : Option StoreValue).
+    MatchOption p ⊤ (λ s. MatchOption (any_reader_in r.origin) ⊤ (λ v. v.book ≡ s.seen.book))
+    → MatchOption p ⊤ (λ s. MatchOption (any_reader_in r.origin) ⊤ (λ v. StartsWith s.seen.batches v.batches))) is
+    agrees)
 
-pub handles_have_one_history : HandlesHaveOneHistory
-handles_have_one_history trace h store s readers is opened_as of agrees =
+all_agreed : (s : StoreValue) (store : ℕ) (readers : List ℕ) (h last : Handles) → store_in (h.stores store) ≡ Some s
+    → IsTrace h (agreements store readers) last → AreOfOneBook s h readers
+all_agreed s store [] h last opened_as is = tt
+all_agreed s store (r ∷ rs) h last opened_as (next, step, rest) = (
+  agreed_with s (h.stores store) (h.readers r) opened_as step.readers.0,
+  all_agreed s store rs h last opened_as
+      (subst (λ (x : Handles). IsTrace x (agreements store rs) last) (unmoved h next store r step) rest),
+)
+
+-- ---- the law
+
+at_rest : (trace : List Call) (h : Handles) (store : ℕ) (s : StoreValue) (readers : List ℕ)
+    → IsTrace no_handles trace h → store_in (h.stores store) ≡ Some s
+    → AllByRecursion (IsReaderOf store trace) readers → AreOfOneBook s h readers
+    → (history : List Event) × IsHistoryOf s store trace readers history
+at_rest trace h store s readers is opened_as of agrees =
     let all : AllActed s trace readers = all_acted s trace h readers is
     (all_stay trace h store s readers is opened_as of) agrees in
     let worked : HasWorked (work_in store trace) (lists_of s) = subst (λ (o : Option StoreValue).
@@ -157,3 +212,13 @@ handles_have_one_history trace h store s readers is opened_as of agrees =
           one.behind within
           (subst (λ (l : List Act). AllZip IsLifeStep l (met place opened history)) (all.plain_acts place)
           (life.steps place))
+
+pub handles_have_one_history : HandlesHaveOneHistory
+handles_have_one_history trace h store s readers is opened_as of =
+    let parts : Parts no_handles trace (agreements store readers) h =
+    split trace (agreements store readers) no_handles h is in
+    let same : h ≡ parts.between = all_unmoved store readers parts.between h parts.two in
+    let now : store_in (parts.between.stores store) ≡ Some s =
+    ap (λ (x : Handles). store_in (x.stores store)) (sym same) ∙ opened_as in
+    at_rest trace parts.between store s readers parts.one now of
+    (all_agreed s store readers parts.between h now parts.two)

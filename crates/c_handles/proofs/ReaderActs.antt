@@ -18,6 +18,7 @@ use Rattle.c_stores.specs.declared.stores.HeldEntrance.{HeldEntrance}
 use Rattle.c_handles.specs.Calls.{Handle, Unused, Open, Closed, Handles, Call, OpensStore, Loads, Publishes, Reclaims}
 use Rattle.c_handles.specs.Calls.{CountsStore, ClosesStore, MakesNotice, ClosesNotice, MakesEntrance, ClosesEntrance}
 use Rattle.c_handles.specs.Calls.{MakesReader, Enters, EntersAfter, Leaves, Looks, LooksAt, CountsReader, ClosesReader}
+use Rattle.c_handles.specs.Calls.{AgreesWith}
 use Rattle.c_handles.specs.Calls.{IsOpen, IsClosed, IsUnused, Makes, Turns, HasNumbers, IsMadeAt, EntersIn}
 use Rattle.c_handles.specs.Calls.{EntersAfterIn, DoesToReaders, IsTrace, told_by_notice, told_by_entrance}
 use Rattle.c_handles.specs.HandleActs.{Look, ReaderAct, AreAnswered, looks_in, entry_acts, acts_at, acts_in}
@@ -329,6 +330,7 @@ acts_step b k h (Looks n domain languages question text) next looks is answers s
 acts_step b k h (LooksAt n domain languages places question text) next looks is answers seen =
     same_readers b k h.readers next is.1 seen
 acts_step b k h (CountsReader n which number) next looks is answers seen = same_readers b k h.readers next is.1 seen
+acts_step b k h (AgreesWith store n) next looks is answers seen = same_readers b k h.readers next is.1 seen
 acts_step b k h (ClosesReader n) next looks is answers seen =
     changed k n h.readers next (λ t x. Leads b [] x) is.others (idle b (h.readers k) seen)
     (λ same. idle b (next k) (closes_here b (h.readers k) (next k)

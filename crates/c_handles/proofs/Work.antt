@@ -28,6 +28,7 @@ use Rattle.c_stores.specs.declared.stores.HeldStore.{HeldStore}
 use Rattle.c_handles.specs.Calls.{Handle, Unused, Open, Closed, Handles, Call, OpensStore, Loads, Publishes, Reclaims}
 use Rattle.c_handles.specs.Calls.{CountsStore, ClosesStore, MakesNotice, ClosesNotice, MakesEntrance, ClosesEntrance}
 use Rattle.c_handles.specs.Calls.{MakesReader, Enters, EntersAfter, Leaves, Looks, LooksAt, CountsReader, ClosesReader}
+use Rattle.c_handles.specs.Calls.{AgreesWith}
 use Rattle.c_handles.specs.Calls.{IsOpen, IsClosed, IsUnused, HasFault, LoadsInto, PublishesIn, DoesToStores, IsTrace}
 use Rattle.c_handles.specs.HandleActs.{load_events, publish_events, events_in, work_in}
 use Rattle.c_handles.proofs.Slots.{changed, here}
@@ -236,6 +237,7 @@ work_step k h (LooksAt reader domain languages places question text) next work i
     same_stores k work h.stores next is worked
 work_step k h (CountsReader reader which number) next work is worked = same_stores k work h.stores next is worked
 work_step k h (ClosesReader reader) next work is worked = same_stores k work h.stores next is worked
+work_step k h (AgreesWith n reader) next work is worked = same_stores k work h.stores next is worked
 
 pub work_all : (k : ℕ) (calls : List Call) (h last : Handles) (work : List Event) → IsTrace h calls last
     → Worked work (h.stores k) → Worked (work ++ work_in k calls) (last.stores k)

@@ -17,6 +17,7 @@ use Rattle.c_stores.specs.Storing.{IsEntranceOf, IsReaderFrom, IsEntered, IsLeft
 use Rattle.c_stores.specs.declared.stores.HeldStore.{HeldStore}
 use Rattle.c_stores.specs.declared.stores.HeldNotice.{HeldNotice}
 use Rattle.c_stores.specs.declared.stores.HeldEntrance.{HeldEntrance}
+use Rattle.c_handles.specs.Agreement.{AreOfOneStore, Agrees}
 
 -- ---- handles
 
@@ -46,7 +47,7 @@ no_handles = record {
 
 -- A call, with the numbers of its handles, its arguments, and what C reads afterwards: a fault, a version, or the text
 -- of a look-up. `told` is the version of the notice, or of the entrance when it was made; a store that couldn't be
--- opened has none.
+-- opened has none. `AgreesWith` is `agree`, which C doesn't call: it does nothing, and says something of two handles.
 pub data Call : Type 0 where
   OpensStore : (store fault : ℕ) → Call
   Loads : (store : ℕ) (domain locale : List ℕ) (opened : Opened) (fault : ℕ) → Call
@@ -66,6 +67,7 @@ pub data Call : Type 0 where
   LooksAt : (reader : ℕ) (domain languages : List ℕ) (places : Places) (question : Question) (text : List ℕ) → Call
   CountsReader : (reader which number : ℕ) → Call
   ClosesReader : (reader : ℕ) → Call
+  AgreesWith : (store reader : ℕ) → Call
 
 -- ---- what a call does to a handle
 
@@ -181,6 +183,10 @@ pub record LooksAtIn (domain languages : List ℕ) (places : Places) (question :
   pub few : places.count ≤ most_places
   pub answer : IsSetAnswerAt reader (listed places) question text
 
+-- what `agree` says of a store and a reader at hand, if they are of one store
+abbrev pub AgreesIn : HeldStore → HeldSet → Type 0
+AgreesIn store reader = AreOfOneStore store reader → Agrees store reader
+
 -- to the readers
 abbrev pub DoesToReaders : Handles → Call → (ℕ → Handle HeldSet) → Type 0
 DoesToReaders h (MakesReader entrance reader told version fault) after =
@@ -196,6 +202,8 @@ DoesToReaders h (LooksAt reader domain languages places question text) after =
 DoesToReaders h (CountsReader reader which number) after =
     IsOpen (λ r. number ≡ set_number r which) (h.readers reader) × (after ≡ h.readers)
 DoesToReaders h (ClosesReader reader) after = Closes reader h.readers after
+DoesToReaders h (AgreesWith store reader) after =
+    IsOpen (λ s. IsOpen (AgreesIn s) (h.readers reader)) (h.stores store) × (after ≡ h.readers)
 DoesToReaders h _ after = after ≡ h.readers
 
 -- what a call does to all handles

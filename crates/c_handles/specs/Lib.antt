@@ -1,5 +1,6 @@
+pub mod Agreement
 pub mod Calls
 pub mod HandleActs
 pub mod OneHistory
-pub mod Levels
+pub mod Closings
 pub mod Example

@@ -1,13 +1,12 @@
 -- The law of handles: all calls on a store and on its readers are the steps of one legal history.
-use Rattle.std.specs.Prelude.{◌≡◌, ◌⊎◌, ℕ, List, [], ◌∷◌, Option, Some, MatchOption, map, slice_index_or, ⊤}
+use Rattle.std.specs.Prelude.{◌≡◌, ◌⊎◌, ℕ, List, [], ◌∷◌, ◌++◌, Option, Some, MatchOption, map, slice_index_or, ⊤}
 use Rattle.std.specs.List.{AllZip, AllByRecursion}
-use Rattle.live_loads.specs.Batches.{StartsWith}
 use Rattle.live_loads.specs.Store.{StoreValue}
 use Rattle.c_sets.specs.declared.sets.HeldSet.{HeldSet}
 use Rattle.live_versions.specs.History.{Event, opened, state_of, IsLegal}
 use Rattle.desks.specs.ServedHistory.{without_entries}
 use Rattle.life.specs.Life.{met}
-use Rattle.c_handles.specs.Calls.{Handle, Handles, Call, MakesEntrance, MakesReader, no_handles, IsTrace}
+use Rattle.c_handles.specs.Calls.{Handle, Handles, Call, MakesEntrance, MakesReader, AgreesWith, no_handles, IsTrace}
 use Rattle.c_handles.specs.Calls.{store_in, view_in}
 use Rattle.c_handles.specs.HandleActs.{ReaderAct, work_in, acts_in, GoOn, IsStepOf}
 
@@ -31,15 +30,9 @@ pub record IsReaderOf (store : ℕ) (trace : List Call) (reader : ℕ) : Type 0 
 abbrev pub HasBookOf : StoreValue → Handle HeldSet → Type 0
 HasBookOf s reader = MatchOption (view_in reader) ⊤ (λ view. view.book ≡ s.seen.book)
 
--- The agreement: what these readers have seen, if they have the store's book, is a beginning of what is published.
-abbrev pub AreOfOneBook : StoreValue → Handles → List ℕ → Type 0
-AreOfOneBook s h readers = AllByRecursion (λ reader. MatchOption (view_in (h.readers reader)) ⊤
-    (λ view. view.book ≡ s.seen.book → StartsWith s.seen.batches view.batches)) readers
-
--- these readers have seen exactly what is published in the store
-abbrev pub AreLevel : StoreValue → Handles → List ℕ → Type 0
-AreLevel s h readers = AllByRecursion (λ reader. MatchOption (view_in (h.readers reader)) ⊤ (λ view. view ≡ s.seen))
-    readers
+-- the store and each of these readers are at hand together, and `agree` is called
+abbrev pub agreements : ℕ → List ℕ → List Call
+agreements store readers = map (λ reader. AgreesWith store reader) readers
 
 -- ---- its history
 
@@ -70,13 +63,9 @@ abbrev pub ReadersStay : Type 0
 ReadersStay = (trace : List Call) (h : Handles) (store reader : ℕ) (s : StoreValue) → IsTrace no_handles trace h
     → store_in (h.stores store) ≡ Some s → IsReaderOf store trace reader → HasBookOf s (h.readers reader)
 
--- readers that have seen exactly what is published agree with the store
-abbrev pub LevelReadersAgree : Type 0
-LevelReadersAgree = (s : StoreValue) (h : Handles) (readers : List ℕ) → AreLevel s h readers → AreOfOneBook s h readers
-
--- whatever a program does with its handles, a store has one history with its readers, if they agree at the end
+-- whatever a program does with its handles, a store has one history with its readers, whenever they are at hand together
 abbrev pub HandlesHaveOneHistory : Type 0
 HandlesHaveOneHistory = (trace : List Call) (h : Handles) (store : ℕ) (s : StoreValue) (readers : List ℕ)
-    → IsTrace no_handles trace h → store_in (h.stores store) ≡ Some s
-    → AllByRecursion (IsReaderOf store trace) readers → AreOfOneBook s h readers
+    → IsTrace no_handles (trace ++ agreements store readers) h → store_in (h.stores store) ≡ Some s
+    → AllByRecursion (IsReaderOf store trace) readers
     → (history : List Event) × IsHistoryOf s store trace readers history

@@ -1,30 +1,23 @@
-//! How a program with a store and one of its readers at hand compares what is published with what was seen.
-ghost use Rattle.std.specs.Prelude.{◌↔◌, IsTrue};
-ghost use Rattle.c_handles.specs.Levels.{AreOfOneStore, HasMet, IsLevelWith};
+//! What a program with a store and one of its readers at hand knows of both.
+ghost use Rattle.std.specs.Prelude.{◌≡◌};
+ghost use Rattle.c_handles.specs.Agreement.{AreOfOneStore, Agrees};
 
 use c_sets::{HeldSet, Origin};
-use c_stores::{HeldStore, enter_after, notice};
+use c_stores::HeldStore;
 
-/// Enters what is published in a store of this reader, or a later version. If the reader isn't told to be busy, what is
-/// published in the store is a beginning of what it has seen. It may have seen more, so this isn't the agreement.
-pub fn meet(store: &HeldStore, reader: HeldSet) -> HeldSet
-    requires { AreOfOneStore store.now reader }
-    ensures { HasMet store.now reader result }
+/// What a reader of this store has seen is a beginning of what is published in the store. It changes nothing, and no
+/// program needs to call it: it is there for its contract. Nobody publishes meanwhile, since a publish needs the store.
+pub fn agree(store: &mut HeldStore, reader: &HeldSet)
+    requires { AreOfOneStore store.old reader.now }
+    ensures same { store.new ≡ store.old }
+    ensures agrees { Agrees store.new reader.now }
 {
-    let published = notice(store);
-    enter_after(reader, &published)
-}
-
-/// Whether a reader of this store is in exactly what is published in it. Then both agree.
-pub fn is_level(store: &HeldStore, reader: &HeldSet) -> bool
-    requires { AreOfOneStore store.now reader.now }
-    ensures { IsTrue result ↔ IsLevelWith store.now reader.now }
-{
-    let Some(publisher) = &store.publisher else {
-        return false;
+    let Some(publisher) = &mut store.publisher else {
+        return;
     };
     match &reader.origin {
-        Origin::Lent(reader) => publisher.is_entered_by(reader),
-        _ => false,
+        Origin::Lent(reader) => publisher.bounds(reader),
+        Origin::Left(away, _) => publisher.bounds_away(away),
+        _ => {}
     }
 }

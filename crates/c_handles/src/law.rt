@@ -1,6 +1,7 @@
 //! The law of handles. Calling the function does nothing; its contract is the law.
+ghost use Rattle.c_handles.specs.Closings.{ClosingsMayComeLast};
 ghost use Rattle.c_handles.specs.Example.{FirstCallsArePossible};
-ghost use Rattle.c_handles.specs.OneHistory.{HandlesHaveOneHistory, LevelReadersAgree, ReadersGoOn, ReadersStay};
+ghost use Rattle.c_handles.specs.OneHistory.{HandlesHaveOneHistory, ReadersGoOn, ReadersStay};
 
 /// Whatever a program does with its handles, from any threads: a reader's versions never fall and include each notice
 /// that it entered after, and the look-ups of an entry are answered over as many loads as its version says. A reader
@@ -9,17 +10,16 @@ ghost use Rattle.c_handles.specs.OneHistory.{HandlesHaveOneHistory, LevelReaders
 /// notices that it entered after.
 ///
 /// A trace lists the calls one after another, so that each takes its handles as the calls before left them. Calls on
-/// different handles may be listed in either order.
+/// different handles may be listed in either order; so a closing may be listed last, since no later call has its handle.
 ///
-/// The history has a premise, the agreement `AreOfOneBook`: at the end, what each reader has seen is a beginning of
-/// what is published in its store. No contract of a single call can say it of two handles. It holds whenever no publish
-/// is running: the store and its readers have tokens of beginnings of one book (`Seen` of `snapshot_store`), of which
-/// the shorter one begins the longer one, and only a publish adds to the book. A program that has both at hand sees it
-/// by `is_level`.
+/// The history is that of a store and readers which are at hand together, when no call is running. Then `agree` may be
+/// called for each of these readers. It is proved to say that what the reader has seen is a beginning of what is
+/// published; it changes nothing, and never fails. So the law needs no premise but that the calls do what their
+/// contracts say. While a publish is running, its store isn't at hand, and a reader may be ahead of it.
 pub fn handles_have_one_history()
     ensures versions { ReadersGoOn }
     ensures stay { ReadersStay }
-    ensures level { LevelReadersAgree }
+    ensures closings { ClosingsMayComeLast }
     ensures possible { FirstCallsArePossible }
     ensures history { HandlesHaveOneHistory }
 {}
