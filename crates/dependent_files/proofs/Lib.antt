@@ -3,3 +3,7 @@ mod Gathering
 mod Files
 mod Foreign
 mod Faults
+mod Flags
+mod FlagBytes
+mod FlagDirectives
+mod FlagMaps

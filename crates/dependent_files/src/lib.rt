@@ -6,6 +6,7 @@ mod any;
 mod compiler;
 mod fault;
 mod file;
+mod flag;
 mod here;
 mod same;
 
@@ -13,3 +14,4 @@ pub use any::compile_dependent_any;
 pub use compiler::{DependentFile, compile_file};
 pub use fault::FileFault;
 pub use file::{MessagesFile, file_of_messages};
+pub use flag::has_digits_flag;
