@@ -40,6 +40,7 @@ PARTS = (
     "Boost Format Strings",
     "C# Format Strings",
     "Contexts",
+    "GCC internal Format Strings",
     "Header Entry",
     "Interface to gettext",
     "Locale Names",

@@ -8,6 +8,8 @@ mod brace;
 #[cfg(test)]
 mod csharp;
 #[cfg(test)]
+mod gcc_internal;
+#[cfg(test)]
 mod java;
 #[cfg(test)]
 mod java_printf;

@@ -1,0 +1,3 @@
+pub mod GccEntityLemmas
+pub mod GccDirectiveLemmas
+pub mod GccTextLemmas

@@ -1,0 +1,4 @@
+pub mod GccEntities
+pub mod GccDirectives
+pub mod GccCollecting
+pub mod GccFormat
