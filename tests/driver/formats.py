@@ -49,6 +49,9 @@ JAVA = ("{0}", "{0}", "{1}", "{1}", "{2,number}", "{2,number,integer}", "{2,numb
         "{2,choice,0#''{1}''}", "{2,choice,0\\\\u2264{2,choice,0#{1}'|'1#{0}}}", "{2,number,0\\\\u0023;#}")  # fmt: skip
 JAVA_FAULTS = ("{", "}", "{}", "{a}", "{0", "{-1}", "{0,}", "{0,text}", "{2,date}", "{3,numbers}", "{2,number,x}", "{2,number,'#'}",
                "{2,number,0;}", "{2,choice,#x}", "{2,choice,0|1#x}", "{2,choice,0#'{'}", "{3,choice,0#{3,date}}", "'", "{2,number,\\\\u0030}")  # fmt: skip
+GCC = ("%s", "%s", "%d", "%d", "%ld", "%lld", "%wu", "%x", "%c", "%p", "%qD", "%J", "%+#T", "%E", "%H", "%P", "%m", "%m", "%%", "%<", "%>",
+       "%.5s", "%.*s", "%1$s", "%1$s", "%2$d", "%2$.*1$s", "%4294967297$s")  # fmt: skip
+GCC_FAULTS = ("%", "%y", "%X", "%5d", "%llld", "%lwd", "%qqd", "%0$s", "%1$m", "%q%", "%.s", "%.5d", "%1$.*1$s", "%2$.*s", "%1$", "%\u00e9")
 # The other languages that are checked, each with directives and with faults.
 OTHERS = {
     "kde-format": (tuple(text for text in NUMBERS if text[1] not in "Ln0") + ("%1", "%2"), NUMBER_FAULTS),
@@ -61,6 +64,7 @@ OTHERS = {
     "perl-format": (PERL, PERL_FAULTS),
     "javascript-format": (SCRIPT, SCRIPT_FAULTS),
     "java-format": (JAVA, JAVA_FAULTS),
+    "gcc-internal-format": (GCC, GCC_FAULTS),
 }
 FAULT = re.compile(rb"^[^\n:]*:(\d+): (.*)$")
 COUNT = re.compile(rb"^[^\n]*: found (\d+) fatal errors?$")

@@ -81,6 +81,8 @@ fault '.NET, one more' csharp-format '{0}' '{1}' "$differ"
 fault '.NET, no number' csharp-format '{0}' '{' "'msgstr' is not a valid C# format string, unlike 'msgid'."
 fault 'librep, a character' librep-format '%d' '%c' "$differ"
 fault 'librep, no conversion' librep-format '%d' '%y' "'msgstr' is not a valid librep format string, unlike 'msgid'."
+fault 'GCC, another kind' gcc-internal-format '%qD' '%qT' "$differ"
+fault 'GCC, no conversion' gcc-internal-format '%d' '%y' "'msgstr' is not a valid GCC internal format string, unlike 'msgid'."
 fault 'awk, another kind' awk-format '%d' '%s' "$differ"
 fault 'awk, no conversion' awk-format '%d' '%y' "'msgstr' is not a valid awk format string, unlike 'msgid'."
 fault 'Lua, another order' lua-format '%d %s' '%s %d' "$differ"
@@ -143,6 +145,7 @@ served 'no fault, Java' ours java-format '{0,number} {1}' '{1} {0,choice,0#no|1<
 served 'no fault, java.util.Formatter' ours java-printf-format '%d %s' '%2$s %1$d' -c
 served 'no fault, .NET' ours csharp-format '{0} {1}' '{1,5} {0:X}' -c
 served 'no fault, librep' ours librep-format '%d %s' '%2$s %1$d' -c
+served 'no fault, GCC' ours gcc-internal-format '%qD %m' '%m %J' -c
 served 'no fault, awk' ours awk-format '%d %s' '%2$s %1$d' -c
 served 'no fault, Lua' ours lua-format '%d %s' '%5d %s' -c
 served 'no fault, Object Pascal' ours object-pascal-format '%d %s' '%1:s %0:d' -c

@@ -22,6 +22,7 @@ use Rattle.php_format.proofs.PhpDirectiveLemmas as php_lemmas
 use Rattle.format_flags.specs.declared.languages.Language.{Language}
 use Rattle.format_flags.specs.declared.languages.Language.TheVariants.{Python, PythonBrace, Shell, PerlBrace, Php}
 use Rattle.format_flags.specs.declared.languages.Language.TheVariants.{Java, JavaPrintf, CSharp, Librep, KdeKuit}
+use Rattle.format_flags.specs.declared.languages.Language.TheVariants.{GccInternal}
 use Rattle.named_formats.specs.declared.Notation.{Notation as Names}
 use Rattle.named_formats.specs.declared.Notation.TheVariants as names
 use Rattle.named_formats.specs.NameDirectives as name_directives
@@ -41,6 +42,7 @@ use Rattle.java_formats.proofs.ReadingLemmas.{one_list as one_of_java}
 use Rattle.java_printf_format.proofs.PrintfTextLemmas.{one_list as one_of_java_printf}
 use Rattle.csharp_format.proofs.CSharpTextLemmas.{one_list as one_of_csharp}
 use Rattle.librep_format.proofs.LibrepTextLemmas.{one_list as one_of_librep}
+use Rattle.gcc_internal_format.proofs.GccTextLemmas.{one_of_gcc}
 use Rattle.format_checks.specs.declared.Difference.{Difference}
 use Rattle.format_checks.specs.declared.Difference.TheVariants.{Invalid, Arguments}
 use Rattle.format_checks.specs.declared.Fault.{Fault}
@@ -79,6 +81,7 @@ one_other Librep text a b x y = one_of_librep text a b x y
 one_other KdeKuit text a b x y = of_numbers numbers.Kde text a b x.1 y.1
 one_other Php text a b x y =
     one_list_of percent php.DirectiveAt php_lemmas.are_directives requests_of php_format.fits text a b x y
+one_other GccInternal text a b x y = one_of_gcc text a b x y
 one_other _ text a b x y = absurd x
 
 -- by the notation of the language, if it has one in script_formats or in numbered_formats

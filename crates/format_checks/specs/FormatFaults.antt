@@ -8,7 +8,7 @@ use Rattle.format_flags.specs.declared.languages.Language.TheVariants.{Python, P
 use Rattle.format_flags.specs.declared.languages.Language.TheVariants.{JavaScript, Shell, Awk, Lua, ObjectPascal}
 use Rattle.format_flags.specs.declared.languages.Language.TheVariants.{Smalltalk, Qt, QtPlural, Kde, Tcl, Perl}
 use Rattle.format_flags.specs.declared.languages.Language.TheVariants.{Librep, KdeKuit, Boost}
-use Rattle.format_flags.specs.declared.languages.Language.TheVariants.{PerlBrace, Php, Ycp}
+use Rattle.format_flags.specs.declared.languages.Language.TheVariants.{PerlBrace, Php, GccInternal, Ycp}
 use Rattle.format_checks.specs.declared.Difference.{Difference}
 use Rattle.format_checks.specs.declared.Difference.TheVariants.{Invalid, Arguments}
 use Rattle.format_checks.specs.declared.Fault.{Fault}
@@ -52,7 +52,8 @@ flagged_questions e often language = if has e.flags language then questions e of
 abbrev pub checked : List Language
 checked =
     Python ∷ PythonBrace ∷ Java ∷ JavaPrintf ∷ CSharp ∷ JavaScript ∷ Librep ∷ Shell ∷ Awk ∷ Lua ∷ ObjectPascal
-    ∷ Smalltalk ∷ Qt ∷ QtPlural ∷ Kde ∷ KdeKuit ∷ Boost ∷ Tcl ∷ Perl ∷ PerlBrace ∷ Php ∷ Ycp ∷ []
+    ∷ Smalltalk ∷ Qt ∷ QtPlural ∷ Kde ∷ KdeKuit ∷ Boost ∷ Tcl ∷ Perl ∷ PerlBrace ∷ Php ∷ GccInternal
+    ∷ Ycp ∷ []
 
 -- those of each language that the entry is flagged with
 abbrev pub all_questions : Entry → List Bool → List Question

@@ -13,7 +13,7 @@ use Rattle.format_flags.specs.declared.languages.Language.TheVariants.{Python, P
 use Rattle.format_flags.specs.declared.languages.Language.TheVariants.{JavaScript, Shell, Awk, Lua, ObjectPascal}
 use Rattle.format_flags.specs.declared.languages.Language.TheVariants.{Smalltalk, Qt, QtPlural, Kde, Tcl, Perl}
 use Rattle.format_flags.specs.declared.languages.Language.TheVariants.{Librep, KdeKuit, Boost}
-use Rattle.format_flags.specs.declared.languages.Language.TheVariants.{PerlBrace, Php, Ycp}
+use Rattle.format_flags.specs.declared.languages.Language.TheVariants.{PerlBrace, Php, GccInternal, Ycp}
 use Rattle.python_format.specs.Format as python
 use Rattle.python_brace_format.specs.BraceFormat as brace
 use Rattle.python_brace_format.specs.BraceAgreement as brace_agreement
@@ -33,6 +33,7 @@ use Rattle.java_printf_format.specs.PrintfFormat as java_printf
 use Rattle.csharp_format.specs.CSharpFormat as csharp
 use Rattle.librep_format.specs.LibrepFormat as librep
 use Rattle.kuit_formats.specs.KuitFormat as kuit
+use Rattle.gcc_internal_format.specs.GccFormat as gcc_internal
 use Rattle.csharp_format.specs.CSharpAgreement as csharp_agreement
 
 -- ---- arguments with names, or in the order of the text
@@ -85,6 +86,7 @@ ListsOther CSharp text asked = csharp.HasSignature text asked
 ListsOther Librep text asked = librep.HasSignature text asked
 ListsOther KdeKuit text asked = kuit.HasSignature text asked
 ListsOther Php text asked = php.HasSignature text asked
+ListsOther GccInternal text asked = gcc_internal.HasSignature text asked
 ListsOther _ text asked = ⊥
 
 -- the text is a format of the language that asks for these arguments
@@ -100,6 +102,7 @@ FailsNumbered language text Memory = Unit {0}
 
 abbrev pub others_agree : Language → List code_numbered.Numbered → List code_numbered.Numbered → Strictness → Bool
 others_agree CSharp original translation rule = csharp_agreement.agree original translation rule
+others_agree GccInternal original translation rule = gcc_internal.agree original translation rule
 others_agree KdeKuit original translation rule = number_agreement.agree numbers.Kde original translation rule
 others_agree _ original translation rule = numbered_arguments.agree original translation rule
 

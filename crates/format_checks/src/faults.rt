@@ -108,6 +108,7 @@ const CHECKED: &[Language] = &[
     Language::Perl,
     Language::PerlBrace,
     Language::Php,
+    Language::GccInternal,
     Language::Ycp,
 ];
 
