@@ -18,6 +18,8 @@ mod kuit;
 #[cfg(test)]
 mod librep;
 #[cfg(test)]
+mod lisp;
+#[cfg(test)]
 mod macros;
 #[cfg(test)]
 mod named;

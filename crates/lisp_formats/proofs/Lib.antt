@@ -1,0 +1,5 @@
+pub mod LispParameterLemmas
+pub mod LispVariableLemmas
+pub mod LispDirectiveLemmas
+pub mod LispTextLemmas
+pub mod LispAgreementLemmas

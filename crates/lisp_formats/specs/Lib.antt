@@ -1,0 +1,5 @@
+pub mod LispParameters
+pub mod LispConversions
+pub mod LispDirectives
+pub mod LispFormat
+pub mod LispAgreement
