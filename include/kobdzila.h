@@ -259,10 +259,11 @@ enum kob_format_language {
     KOB_YCP_FORMAT = 35
 };
 
-/* What is wrong with a form whose original is a format. */
+/* What is wrong with a form whose original is a format, or may be one. */
 enum kob_format_difference {
-    KOB_FORMAT_INVALID = 0,  /* it is no format */
-    KOB_FORMAT_ARGUMENTS = 1 /* its arguments don't agree with the original's */
+    KOB_FORMAT_INVALID = 0,   /* it is no format */
+    KOB_FORMAT_ARGUMENTS = 1, /* its arguments don't agree with the original's */
+    KOB_FORMAT_UNREAD = 2     /* unknown: it or its original has a directive of Scheme or of Lisp that isn't read */
 };
 
 /* A fault of one form. */

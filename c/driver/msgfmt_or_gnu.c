@@ -550,18 +550,29 @@ _Noreturn static void end_with_faults(struct run *run, const struct format_fault
     _exit(1);
 }
 
+/* Leave a format that isn't read here to GNU msgfmt. Without GNU msgfmt only keep this reason for the log, if there is
+ * no other. */
+static void leave_unread(struct run *run, const char *flag, char *why) {
+    if (!why[0])
+        snprintf(why, WHY_SIZE, "%s that is not read here", flag);
+    if (has_gnu(run))
+        end_by_gnu(run, why);
+}
+
 /* Check the formats. A text that is refused here will be refused as well when it is compiled. As in GNU msgfmt, only a
  * check of the header tells which plural forms serve many numbers. */
-static void check_formats(struct run *run, const char *flag) {
+static void check_formats(struct run *run, const char *flag, char *why) {
     const struct request *request = run->request;
     unsigned options = (request->checks_header ? KOB_CHECKED : 0) | (request->keeps_fuzzy ? KOB_USE_FUZZY : 0);
     struct format_faults faults;
-    kob_refusal why;
-    if (find_format_faults(&faults, utf8_of(run), options, &why)) {
+    kob_refusal refusal;
+    if (find_format_faults(&faults, utf8_of(run), options, &refusal)) {
+        if (faults.unread)
+            leave_unread(run, faults.unread, why);
         if (faults.count)
             end_with_faults(run, &faults, flag);
         free_format_faults(&faults);
-    } else if (why.fault == KOB_MEMORY) {
+    } else if (refusal.fault == KOB_MEMORY) {
         stop_for_memory();
     }
 }
@@ -597,7 +608,7 @@ _Noreturn static void drive(struct run *run) {
     if (why[0] && has_gnu(run))
         end_by_gnu(run, why);
     if (needs.format && has_library())
-        check_formats(run, needs.format);
+        check_formats(run, needs.format, why);
     run->is_dependent = needs.is_dependent && has_library();
     run->header_line = needs.header_line;
     run->plain_macros = needs.plain_macros;

@@ -28,6 +28,8 @@ static const struct language {
     {KOB_JAVA_PRINTF_FORMAT, "java-printf-format", "Java printf ", NULL, NULL},
     {KOB_CSHARP_FORMAT, "csharp-format", "C# ", NULL, NULL},
     {KOB_JAVASCRIPT_FORMAT, "javascript-format", "JavaScript ", NULL, NULL},
+    {KOB_SCHEME_FORMAT, "scheme-format", "Scheme ", NULL, NULL},
+    {KOB_LISP_FORMAT, "lisp-format", "Lisp ", NULL, NULL},
     {KOB_LIBREP_FORMAT, "librep-format", "librep ", NULL, NULL},
     {KOB_SH_FORMAT, "sh-format", "Shell ", NULL, NULL},
     {KOB_AWK_FORMAT, "awk-format", "awk ", NULL, NULL},
@@ -175,6 +177,16 @@ static bool find_entry(struct reader *reader, struct entry *entry, unsigned line
     return true;
 }
 
+/* Say one fault, or note that a format is not read here. False if memory runs out. */
+static bool take_fault(struct format_faults *faults, const kob_format_fault *fault, const struct entry *entry) {
+    const struct language *language = language_of(fault);
+    if (fault->difference != KOB_FORMAT_UNREAD)
+        return say(&faults->at[faults->count++], fault, entry);
+    if (!faults->unread)
+        faults->unread = language ? language->flag : "a format";
+    return true;
+}
+
 /* Say all faults, which come in the order of the text. False if memory runs out. */
 static bool say_all(struct format_faults *faults, const kob_format_faults *found, struct part text) {
     struct reader reader = read_text_from(text);
@@ -184,7 +196,7 @@ static bool say_all(struct format_faults *faults, const kob_format_faults *found
     if (!faults->at)
         return false;
     for (size_t place = 0; kob_format_fault_at(found, place, &fault) && find_entry(&reader, &entry, fault.line); place++)
-        if (!say(&faults->at[faults->count++], &fault, &entry))
+        if (!take_fault(faults, &fault, &entry))
             return false;
     return true;
 }

@@ -62,6 +62,7 @@ struct format_fault {
 struct format_faults {
     struct format_fault *at;
     size_t count;
+    const char *unread; /* the flag of the first format that libkobdzila doesn't read, or NULL */
 };
 
 /* Whether libkobdzila is a part of this program. Otherwise only GNU msgfmt checks formats but C's, and compiles

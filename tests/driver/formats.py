@@ -52,7 +52,11 @@ JAVA_FAULTS = ("{", "}", "{}", "{a}", "{0", "{-1}", "{0,}", "{0,text}", "{2,date
 GCC = ("%s", "%s", "%d", "%d", "%ld", "%lld", "%wu", "%x", "%c", "%p", "%qD", "%J", "%+#T", "%E", "%H", "%P", "%m", "%m", "%%", "%<", "%>",
        "%.5s", "%.*s", "%1$s", "%1$s", "%2$d", "%2$.*1$s", "%4294967297$s")  # fmt: skip
 GCC_FAULTS = ("%", "%y", "%X", "%5d", "%llld", "%lwd", "%qqd", "%0$s", "%1$m", "%q%", "%.s", "%.5d", "%1$.*1$s", "%2$.*s", "%1$", "%\u00e9")
-# The other languages that are checked, each with directives and with faults.
+SCHEME = ("~a", "~s", "~d", "~d", "~va", "~10,'0d", "~c", "~65c", "~f", "~i", "~p", "~:p", "~%", "~~", "~,,'0t", "~y", "~,,,va", "~v%")
+SCHEME_FAULTS = ("~", "~z", "~-a", "~'", "~'xa", "~5p", "~)", "~w", "~,'xt", "~1,2%", "~\u00e9")
+LISP = ("~a", "~S", "~d", "~d", "~va", "~10,'0d", "~c", "~f", "~$", "~p", "~:p", "~%", "~~", "~2,3t", "~w", "~5i", "~_", "~v,'xx")
+LISP_FAULTS = ("~", "~y", "~+d", "~'", "~'xa", "~5w", "~]", "~65c", "~,,'0t", "~5_", "~\u00e9")
+# The other languages that are checked, each with directives and with faults. A loop of Lisp's is left to GNU msgfmt.
 OTHERS = {
     "kde-format": (tuple(text for text in NUMBERS if text[1] not in "Ln0") + ("%1", "%2"), NUMBER_FAULTS),
     "qt-format": (NUMBERS, NUMBER_FAULTS),
@@ -65,6 +69,8 @@ OTHERS = {
     "javascript-format": (SCRIPT, SCRIPT_FAULTS),
     "java-format": (JAVA, JAVA_FAULTS),
     "gcc-internal-format": (GCC, GCC_FAULTS),
+    "scheme-format": (SCHEME, SCHEME_FAULTS),
+    "lisp-format": (LISP, LISP_FAULTS),
 }
 FAULT = re.compile(rb"^[^\n:]*:(\d+): (.*)$")
 COUNT = re.compile(rb"^[^\n]*: found (\d+) fatal errors?$")

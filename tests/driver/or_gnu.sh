@@ -347,9 +347,13 @@ found 'no GNU msgfmt and none is needed' 0 '' -o x.mo ours.po
 found 'no GNU msgfmt, a charset' 1 "charset.po:1: unsupported charset
 $missing (charset=EUC-TW); it is in the package gettext" -o x.mo charset.po
 logs 'driver, no GNU msgfmt, the log' 'ours\t1\tcharset=EUC-TW; no GNU msgfmt\tcharset.po'
-{ cat ours.po && printf '\n#, lisp-format\nmsgid "~D a"\nmsgstr "b"\n'; } > lisp.po
-found 'no GNU msgfmt, a check of its' 0 '' -c -o x.mo lisp.po
-logs 'driver, no GNU msgfmt, the log of a check' 'ours\t0\tlisp-format; no GNU msgfmt\tlisp.po'
+{ cat ours.po && printf '\n#, elisp-format\nmsgid "%%d a"\nmsgstr "b"\n'; } > elisp.po
+found 'no GNU msgfmt, a check of its' 0 '' -c -o x.mo elisp.po
+logs 'driver, no GNU msgfmt, the log of a check' 'ours\t0\telisp-format; no GNU msgfmt\telisp.po'
+{ cat ours.po && printf '\n#, scheme-format\nmsgid "~{~a~}"\nmsgstr "b"\n'; } > scheme.po
+found 'no GNU msgfmt, a format that is not read' 0 '' -c -o x.mo scheme.po
+logs 'driver, no GNU msgfmt, the log of it' \
+  'ours\t0\tscheme-format that is not read here; no GNU msgfmt\tscheme.po'
 found 'no GNU msgfmt, a refusal' 1 "twice.po:6: duplicate message
 $missing (duplicate message); it is in the package gettext" -o x.mo twice.po
 found 'no GNU msgfmt, an option of its' 1 "msgfmt-or-gnu: --strict: $needed" --strict -o x.mo ours.po

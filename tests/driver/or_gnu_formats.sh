@@ -83,6 +83,11 @@ fault 'librep, a character' librep-format '%d' '%c' "$differ"
 fault 'librep, no conversion' librep-format '%d' '%y' "'msgstr' is not a valid librep format string, unlike 'msgid'."
 fault 'GCC, another kind' gcc-internal-format '%qD' '%qT' "$differ"
 fault 'GCC, no conversion' gcc-internal-format '%d' '%y' "'msgstr' is not a valid GCC internal format string, unlike 'msgid'."
+fault 'Scheme, any object' scheme-format '~d' '~a' "$differ"
+fault 'Scheme, no conversion' scheme-format '~d' '~z' "'msgstr' is not a valid Scheme format string, unlike 'msgid'."
+fault 'Lisp, one more' lisp-format '~a' '~a ~a' "$differ"
+fault 'Lisp, a sign without a digit' lisp-format '~d' '~-d' \
+  "'msgstr' is not a valid Lisp format string, unlike 'msgid'."
 fault 'awk, another kind' awk-format '%d' '%s' "$differ"
 fault 'awk, no conversion' awk-format '%d' '%y' "'msgstr' is not a valid awk format string, unlike 'msgid'."
 fault 'Lua, another order' lua-format '%d %s' '%s %d' "$differ"
@@ -146,6 +151,10 @@ served 'no fault, java.util.Formatter' ours java-printf-format '%d %s' '%2$s %1$
 served 'no fault, .NET' ours csharp-format '{0} {1}' '{1,5} {0:X}' -c
 served 'no fault, librep' ours librep-format '%d %s' '%2$s %1$d' -c
 served 'no fault, GCC' ours gcc-internal-format '%qD %m' '%m %J' -c
+served 'no fault, Scheme' ours scheme-format '~a ~d~:p' '~s, ~x' -c
+served 'no fault, Lisp' ours lisp-format "~10,'0d ~a" '~d ~w' -c
+served 'a loop of Scheme' 'GNU\t0\tscheme-format that is not read here' scheme-format '~{~a~}' '~{~s~}' -c
+served 'a loop in a translation' 'GNU\t1\tlisp-format that is not read here' lisp-format '~a' '~{~a~}' -c
 served 'no fault, awk' ours awk-format '%d %s' '%2$s %1$d' -c
 served 'no fault, Lua' ours lua-format '%d %s' '%5d %s' -c
 served 'no fault, Object Pascal' ours object-pascal-format '%d %s' '%1:s %0:d' -c
@@ -158,7 +167,7 @@ served 'fuzzy and used' 'GNU\t1\tpython-format' 'fuzzy, python-format' '%d' '%s'
 served 'untranslated' ours python-format '%d' '' -c
 served 'denied' ours 'python-format, no-python-format' '%d' '%s' -c
 served 'possible' 'GNU\t1\tpython-format' possible-python-format '%d' '%s' -c
-served 'with another language' 'GNU\t0\tlisp-format' 'python-format, lisp-format' '%d' '%d' -c
+served 'with another language' 'GNU\t0\telisp-format' 'python-format, elisp-format' '%d' '%d' -c
 served 'with a range' 'GNU\t0\tpython-format' 'python-format, range: 0..3' '%d' '%d' -c
 served 'an original that is none' ours python-format '100 %' '%d' -c
 

@@ -13,7 +13,7 @@ use Rattle.any_charset.specs.Recoding.{IsRecoded, LacksCharacter}
 use Rattle.any_charset.specs.declared.fault.TextFault.{TextFault}
 use Rattle.any_charset.specs.declared.fault.TextFault.TheVariants.{Load, NoCharacter}
 use Rattle.format_checks.specs.declared.Difference.{Difference}
-use Rattle.format_checks.specs.declared.Difference.TheVariants.{Invalid, Arguments}
+use Rattle.format_checks.specs.declared.Difference.TheVariants.{Invalid, Arguments, Unread}
 use Rattle.format_checks.specs.declared.Fault.{Fault}
 use Rattle.format_flags.specs.Languages.{number as language_number}
 use Rattle.po_formats.specs.TextFaults.{HasFaultsAny, RefusesAny}
@@ -94,6 +94,7 @@ faults_in _ = []
 abbrev pub difference_number : Difference → ℕ
 difference_number Invalid = 0
 difference_number Arguments = 1
+difference_number Unread = 2
 
 -- a number of a fault
 abbrev pub fault_part : Fault → ℕ → ℕ

@@ -195,6 +195,7 @@ fn difference_number(difference: Difference) -> u32
     match difference {
         Difference::Invalid => 0,
         Difference::Arguments => 1,
+        Difference::Unread => 2,
     }
 }
 

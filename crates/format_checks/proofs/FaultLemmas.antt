@@ -1,6 +1,6 @@
 -- The faults of an entry, collected form by form.
 use Rattle.std.proofs.Common.{◌≡◌, ℕ, ◌+◌, ◌<◌, ◌≤◌, Bool, true, false, List, [], ◌∷◌, ◌++◌, length, take, get_or}
-use Rattle.std.proofs.Common.{Option, None}
+use Rattle.std.proofs.Common.{Option, None, Some, Result, Ok, Err, IfOk}
 use Rattle.std.proofs.Common.{refl, sym, ap, subst, ◌∙◌, append_assoc, inl, inr}
 use Rattle.std.specs.List.{flat_map}
 use Rattle.std.proofs.lemmas.Bool.{cases_Bool}
@@ -12,16 +12,20 @@ use Rattle.format_arguments.specs.declared.FormatFault.{FormatFault}
 use Rattle.format_arguments.specs.declared.FormatFault.TheVariants.{Invalid, Memory}
 use Rattle.format_arguments.specs.declared.Strictness.{Strictness}
 use Rattle.format_flags.specs.declared.languages.Language.TheVariants.{Python, PythonBrace, Shell, PerlBrace}
-use Rattle.format_flags.specs.declared.languages.Language.TheVariants.{ObjectiveC}
+use Rattle.format_flags.specs.declared.languages.Language.TheVariants.{ObjectiveC, Scheme, Lisp}
 use Rattle.format_arguments.specs.Arguments.{Argument}
 use Rattle.numbered_arguments.specs.declared.Numbered as code_numbered
-use Rattle.format_checks.specs.FormatLanguages.{Asked, Named, Numbered, Lists, HasFault, IsNoFormat, is_named}
-use Rattle.format_checks.specs.FormatLanguages.{ListsNamed, FailsNamed, ListsNumbered, FailsNumbered}
+use Rattle.lisp_formats.specs.declared.Kind as code_placed
+use Rattle.lisp_formats.specs.declared.Notation.{Notation as LispNotation}
+use Rattle.lisp_formats.specs.LispFormat as lisp_formats
+use Rattle.format_checks.specs.FormatLanguages.{Asked, Named, Numbered, Placed, Lists, HasFault, IsNoFormat, is_named}
+use Rattle.format_checks.specs.FormatLanguages.{ListsNamed, FailsNamed, ListsNumbered, FailsNumbered, lisp_of}
+use Rattle.format_checks.specs.FormatLanguages.{Reading, Format, NoFormat, Unread, IsReading, IsPlacedReading}
 use Rattle.format_flags.specs.FormatFlags.{has}
 use Rattle.format_checks.specs.FlaggedEntries.{Entry, original, rule_for}
 use Rattle.format_checks.specs.FormatFaults.{Question, question, questions_from, questions, flagged_questions}
 use Rattle.format_checks.specs.FormatFaults.{checked, all_questions}
-use Rattle.format_checks.specs.FormatFaults.{IsDifference, HasVerdict}
+use Rattle.format_checks.specs.FormatFaults.{IsVerdict, HasVerdict}
 use Rattle.format_checks.specs.FormatFaults.{fault_of, list_of, AreFaults, AddsFaults}
 
 -- ---- lists of faults
@@ -77,19 +81,6 @@ pub adds_all : (line : ℕ) (e : Entry) (often : List Bool) (index : ℕ) (a b :
 adds_all line e often index a b le so_far =
     subst (λ (ls : List Language). AddsFaults line (flat_map (flagged_questions e often) ls) a b)
     (take_all index checked le) so_far
-
--- ---- an original that is no format
-
-none_from : (line : ℕ) (e : Entry) (often : List Bool) (language : Language) (form : ℕ) (forms : List (List ℕ))
-    → IsNoFormat language (original e) → AreFaults line (questions_from e often language form forms) []
-none_from line e often language form [] none = refl
-none_from line e often language form (t ∷ forms) none =
-    (None, [], inl (none, refl), none_from line e often language (form + 1) forms none, refl)
-
--- an original that is no format is compared with nothing
-pub adds_none : (line : ℕ) (e : Entry) (often : List Bool) (language : Language) (a : List Fault)
-    → IsNoFormat language (original e) → AddsFaults line (questions e often language) a a
-adds_none line e often language a none = ([], sym (append-nil a), none_from line e often language 0 e.forms none)
 
 -- ---- form by form
 
@@ -163,21 +154,64 @@ never_named Shell text asked is x = absurd (cc is)
 never_named PerlBrace text asked is x = absurd (cc is)
 never_named _ text asked is x = x
 
+-- a language of lisp_formats has no others
+pub never_named_lisp : (language : Language) (notation : LispNotation) (text : List ℕ) (asked : List Argument)
+    → lisp_of language ≡ Some notation → ListsNamed language text asked → ⊥
+never_named_lisp Scheme notation text asked is x = x
+never_named_lisp Lisp notation text asked is x = x
+never_named_lisp _ notation text asked is x = absurd (cc is)
+
+pub never_numbered_lisp : (language : Language) (notation : LispNotation) (text : List ℕ)
+    (asked : List code_numbered.Numbered) → lisp_of language ≡ Some notation → ListsNumbered language text asked → ⊥
+never_numbered_lisp Scheme notation text asked is x = x
+never_numbered_lisp Lisp notation text asked is x = x
+never_numbered_lisp _ notation text asked is x = absurd (cc is)
+
 either : (language : Language) (text : List ℕ) → ((asked : List Argument) → ListsNamed language text asked → ⊥)
-    → ((asked : List code_numbered.Numbered) → ListsNumbered language text asked → ⊥) → (asked : Asked)
-    → Lists language text asked → ⊥
-either language text named numbered (Named asked) x = named asked x
-either language text named numbered (Numbered asked) x = numbered asked x
+    → ((asked : List code_numbered.Numbered) → ListsNumbered language text asked → ⊥) → lisp_of language ≡ None
+    → (asked : Asked) → Lists language text asked → ⊥
+either language text named numbered none (Named asked) x = named asked x
+either language text named numbered none (Numbered asked) x = numbered asked x
+either language text named numbered none (Placed asked) x = absurd (rw none at x)
 
 pub no_named : (language : Language) (text : List ℕ) (fault : FormatFault) → is_named language ≡ true
-    → FailsNamed language text fault → HasFault language text fault
-no_named language text Invalid is none = either language text none (λ asked x. never_numbered language text asked is x)
-no_named language text Memory is none = none
+    → FailsNamed language text fault → lisp_of language ≡ None → HasFault language text fault
+no_named language text Invalid is none other =
+    either language text none (λ asked x. never_numbered language text asked is x) other
+no_named language text Memory is none other = none
 
 pub no_numbered : (language : Language) (text : List ℕ) (fault : FormatFault) → is_named language ≡ false
-    → FailsNumbered language text fault → HasFault language text fault
-no_numbered language text Invalid is none = either language text (λ asked x. never_named language text asked is x) none
-no_numbered language text Memory is none = none
+    → FailsNumbered language text fault → lisp_of language ≡ None → HasFault language text fault
+no_numbered language text Invalid is none other =
+    either language text (λ asked x. never_named language text asked is x) none other
+no_numbered language text Memory is none other = none
+
+pub no_format : (language : Language) (text : List ℕ) → lisp_of language ≡ None → HasFault language text Invalid
+    → IsNoFormat language text
+no_format language text none no = (no, λ unread. absurd (rw none at unread))
+
+no_lisp : (language : Language) (notation : LispNotation) (text : List ℕ) → lisp_of language ≡ Some notation
+    → ((asked : List code_placed.Kind) → ¬ lisp_formats.HasSignature notation text asked) → (asked : Asked)
+    → Lists language text asked → ⊥
+no_lisp language notation text is none (Named asked) x = never_named_lisp language notation text asked is x
+no_lisp language notation text is none (Numbered asked) x = never_numbered_lisp language notation text asked is x
+no_lisp language notation text is none (Placed asked) x = none asked (rw is at x)
+
+pub placed_reading : (language : Language) (notation : LispNotation) (text : List ℕ) (reading : Reading)
+    → lisp_of language ≡ Some notation → IsPlacedReading notation text reading → IsReading language text reading
+placed_reading language notation text (Format (Placed asked)) is x = rw is x
+placed_reading language notation text (Format (Named asked)) is x = absurd x
+placed_reading language notation text (Format (Numbered asked)) is x = absurd x
+placed_reading language notation text NoFormat is (none, read) =
+    (no_lisp language notation text is none, λ unread. read (rw is at unread))
+placed_reading language notation text Unread is x = rw is x
+
+pub placed_result : {X E : Type 0} (language : Language) (notation : LispNotation) (text : List ℕ)
+    (view : X → Reading) (result : Result X E) → lisp_of language ≡ Some notation
+    → IfOk result (λ found. IsPlacedReading notation text (view found))
+    → IfOk result (λ found. IsReading language text (view found))
+placed_result language notation text view (Ok found) is x = placed_reading language notation text (view found) is x
+placed_result language notation text view (Err error) is x = x
 
 pub one_sort : (language : Language) (text : List ℕ) (a : List Argument) (b : List code_numbered.Numbered)
     → ListsNamed language text a → ListsNumbered language text b → ⊥
@@ -187,16 +221,12 @@ one_sort language text a b x y = elim (cases_Bool (is_named language)) [
 ]
 
 pub verdict_of : (e : Entry) (often : List Bool) (language : Language) (form : ℕ) (t text : List ℕ) (rule : Strictness)
-    (asked given : Asked) (found : Option Difference) → text ≡ original e → Lists language text asked
-    → rule ≡ rule_for e often form → given ≡ asked → IsDifference language rule given t found
+    (reading given : Reading) (found : Option Difference) → text ≡ original e → IsReading language text reading
+    → rule ≡ rule_for e often form → given ≡ reading → IsVerdict language rule given t found
     → HasVerdict (question e often language form t) found
-verdict_of e often language form t text rule asked given found is lists rule_is same differs = inr (
-  asked,
-  subst (λ (x : List ℕ). Lists language x asked) is lists,
-  subst (λ (r : Strictness). IsDifference language r asked t found) rule_is
-      (subst (λ (a : Asked). IsDifference language rule a t found) same differs),
+verdict_of e often language form t text rule reading given found is reads rule_is same says = (
+  reading,
+  subst (λ (x : List ℕ). IsReading language x reading) is reads,
+  subst (λ (r : Strictness). IsVerdict language r reading t found) rule_is
+      (subst (λ (r : Reading). IsVerdict language rule r t found) same says),
 )
-
-pub none_of : (language : Language) (text other : List ℕ) → text ≡ other → IsNoFormat language text
-    → IsNoFormat language other
-none_of language text other is none = subst (λ (x : List ℕ). IsNoFormat language x) is none

@@ -1,7 +1,6 @@
 -- There is one list of faults.
 use Rattle.std.proofs.Common.{◌≡◌, ℕ, Bool, true, false, List, [], ◌∷◌, ◌++◌, Option, None, Some, refl, sym}
 use Rattle.std.proofs.Common.{ap, subst, ◌∙◌}
-use Rattle.std.proofs.Common.{inl, inr}
 use Rattle.std.specs.Prelude.{◌↔◌, MatchOption}
 use Rattle.std.specs.List.{AllByRecursion}
 use Rattle.format_arguments.specs.declared.Strictness.{Strictness}
@@ -45,11 +44,18 @@ use Rattle.librep_format.proofs.LibrepTextLemmas.{one_list as one_of_librep}
 use Rattle.gcc_internal_format.proofs.GccTextLemmas.{one_of_gcc}
 use Rattle.format_checks.specs.declared.Difference.{Difference}
 use Rattle.format_checks.specs.declared.Difference.TheVariants.{Invalid, Arguments}
+use Rattle.format_checks.specs.declared.Difference.TheVariants as differences
 use Rattle.format_checks.specs.declared.Fault.{Fault}
-use Rattle.format_checks.specs.FormatLanguages.{Asked, Named, Numbered, Lists, agree, script_of, number_of}
-use Rattle.format_checks.specs.FormatLanguages.{ListsNamed, ListsOther}
-use Rattle.format_checks.proofs.FaultLemmas.{one_sort}
-use Rattle.format_checks.specs.FormatFaults.{Question, IsDifference, HasVerdict, IsAccepted, fault_of, list_of}
+use Rattle.lisp_formats.specs.declared.Kind as code_placed
+use Rattle.lisp_formats.specs.declared.Notation.{Notation as LispNotation}
+use Rattle.lisp_formats.specs.LispFormat as lisp_formats
+use Rattle.lisp_formats.proofs.LispTextLemmas.{one_list as one_of_lisp, read_or_unread}
+use Rattle.format_checks.specs.FormatLanguages.{Asked, Named, Numbered, Placed, Lists, agree, script_of, number_of}
+use Rattle.format_checks.specs.FormatLanguages.{ListsNamed, ListsOther, ListsPlaced, lisp_of, IsUnread}
+use Rattle.format_checks.specs.FormatLanguages.{Reading, Format, NoFormat, Unread, IsReading}
+use Rattle.format_checks.proofs.FaultLemmas.{one_sort, never_named_lisp, never_numbered_lisp}
+use Rattle.format_checks.specs.FormatFaults.{Question, IsDifference, IsVerdict, HasVerdict, IsAccepted, fault_of}
+use Rattle.format_checks.specs.FormatFaults.{list_of}
 use Rattle.format_checks.specs.FormatFaults.{AreFaults}
 
 of_names : (notation : Names) (text : List ℕ) (a b : List Argument) → named_formats.HasSignature notation text a
@@ -97,6 +103,41 @@ one_by (Some notation) number language text a b x y = one_list_of script_directi
 one_by None (Some notation) language text a b x y = of_numbers notation text a b x y
 one_by None None language text a b x y = one_other language text a b x y
 
+-- where a language is one of lisp_formats, which one it is
+lisp_found : (found : Option LispNotation) (Has : LispNotation → Type 0) → MatchOption found ⊥ Has
+    → (notation : LispNotation) × (found ≡ Some notation) × Has notation
+lisp_found None Has x = absurd x
+lisp_found (Some notation) Has x = (notation, refl, x)
+
+placed_found : (language : Language) (text : List ℕ) (asked : List code_placed.Kind) → ListsPlaced language text asked
+    → (notation : LispNotation) × (lisp_of language ≡ Some notation) × lisp_formats.HasSignature notation text asked
+placed_found language text asked x =
+    lisp_found (lisp_of language) (λ notation. lisp_formats.HasSignature notation text asked) x
+
+unread_found : (language : Language) (text : List ℕ) → IsUnread language text
+    → (notation : LispNotation) × (lisp_of language ≡ Some notation) × lisp_formats.IsUnread notation text
+unread_found language text x = lisp_found (lisp_of language) (λ notation. lisp_formats.IsUnread notation text) x
+
+one_placed : (language : Language) (text : List ℕ) (a b : List code_placed.Kind) → ListsPlaced language text a
+    → ListsPlaced language text b → a ≡ b
+one_placed language text a b x y =
+    let f = placed_found language text a x in
+    let g = placed_found language text b y in
+    let same : f.0 ≡ g.0 = cc (f.1, g.1) in
+    one_of_lisp g.0 text a b (subst (λ (n : LispNotation). lisp_formats.HasSignature n text a) same f.2) g.2
+
+-- arguments by places alone are of a language that has no others
+placed_alone : (language : Language) (text : List ℕ) (a : Asked) (b : List code_placed.Kind) → Lists language text a
+    → ListsPlaced language text b → Placed b ≡ a
+placed_alone language text (Named a) b x y =
+    let f = placed_found language text b y in
+    absurd (never_named_lisp language f.0 text a f.1 x)
+placed_alone language text (Numbered a) b x y =
+    let f = placed_found language text b y in
+    absurd (never_numbered_lisp language f.0 text a f.1 x)
+placed_alone language text (Placed a) b x y =
+    ap (λ (asked : List code_placed.Kind). Placed asked) (one_placed language text b a y x)
+
 one_arguments : (language : Language) (text : List ℕ) (a b : Asked) → Lists language text a
     → Lists language text b → a ≡ b
 one_arguments language text (Named a) (Named b) x y =
@@ -106,6 +147,35 @@ one_arguments language text (Numbered a) (Named b) x y = absurd (one_sort langua
 one_arguments language text (Numbered a) (Numbered b) x y =
     ap (λ (asked : List code_numbered.Numbered). Numbered asked)
     (one_by (script_of language) (number_of language) language text a b x y)
+one_arguments language text (Placed a) b x y = placed_alone language text b a y x
+one_arguments language text a (Placed b) x y = sym (placed_alone language text a b x y)
+
+-- a text that is not read has no arguments
+never_both : (language : Language) (text : List ℕ) (a : Asked) → Lists language text a → IsUnread language text → ⊥
+never_both language text (Named a) x unread =
+    let f = unread_found language text unread in
+    never_named_lisp language f.0 text a f.1 x
+never_both language text (Numbered a) x unread =
+    let f = unread_found language text unread in
+    never_numbered_lisp language f.0 text a f.1 x
+never_both language text (Placed a) x unread =
+    let f = placed_found language text a x in
+    let g = unread_found language text unread in
+    let same : g.0 ≡ f.0 = cc (f.1, g.1) in
+    read_or_unread f.0 text a f.2 (subst (λ (n : LispNotation). lisp_formats.IsUnread n text) same g.2)
+
+one_reading : (language : Language) (text : List ℕ) (r s : Reading) → IsReading language text r
+    → IsReading language text s → r ≡ s
+one_reading language text (Format a) (Format b) x y =
+    ap (λ (asked : Asked). Format asked) (one_arguments language text a b x y)
+one_reading language text (Format a) NoFormat x y = absurd (y.0 a x)
+one_reading language text (Format a) Unread x y = absurd (never_both language text a x y)
+one_reading language text NoFormat (Format b) x y = absurd (x.0 b y)
+one_reading language text NoFormat NoFormat x y = refl
+one_reading language text NoFormat Unread x y = absurd (x.1 y)
+one_reading language text Unread (Format b) x y = absurd (never_both language text b y x)
+one_reading language text Unread NoFormat x y = absurd (y.1 x)
+one_reading language text Unread Unread x y = refl
 
 same_agreement : (language : Language) (rule : Strictness) (form : List ℕ) (original a b : Asked) (x y : Bool)
     → Lists language form a → Lists language form b → agree language original a rule ≡ x
@@ -119,23 +189,38 @@ one_difference : (language : Language) (rule : Strictness) (original : Asked) (f
 one_difference language rule original form None None x y = refl
 one_difference language rule original form None (Some Arguments) (a, f, e) (b, g, h) =
     absurd (cc (same_agreement language rule form original a b true false f g e h))
-one_difference language rule original form None (Some Invalid) (a, f, e) y = absurd (y a f)
+one_difference language rule original form None (Some Invalid) (a, f, e) y = absurd (y.0 a f)
+one_difference language rule original form None (Some differences.Unread) (a, f, e) y =
+    absurd (never_both language form a f y)
 one_difference language rule original form (Some Arguments) None (a, f, e) (b, g, h) =
     absurd (cc (same_agreement language rule form original a b false true f g e h))
 one_difference language rule original form (Some Arguments) (Some Arguments) x y = refl
-one_difference language rule original form (Some Arguments) (Some Invalid) (a, f, e) y = absurd (y a f)
-one_difference language rule original form (Some Invalid) None x (b, g, h) = absurd (x b g)
-one_difference language rule original form (Some Invalid) (Some Arguments) x (b, g, h) = absurd (x b g)
+one_difference language rule original form (Some Arguments) (Some Invalid) (a, f, e) y = absurd (y.0 a f)
+one_difference language rule original form (Some Arguments) (Some differences.Unread) (a, f, e) y =
+    absurd (never_both language form a f y)
+one_difference language rule original form (Some Invalid) None x (b, g, h) = absurd (x.0 b g)
+one_difference language rule original form (Some Invalid) (Some Arguments) x (b, g, h) = absurd (x.0 b g)
 one_difference language rule original form (Some Invalid) (Some Invalid) x y = refl
+one_difference language rule original form (Some Invalid) (Some differences.Unread) x y = absurd (x.1 y)
+one_difference language rule original form (Some differences.Unread) None x (b, g, h) =
+    absurd (never_both language form b g x)
+one_difference language rule original form (Some differences.Unread) (Some Arguments) x (b, g, h) =
+    absurd (never_both language form b g x)
+one_difference language rule original form (Some differences.Unread) (Some Invalid) x y = absurd (y.1 x)
+one_difference language rule original form (Some differences.Unread) (Some differences.Unread) x y = refl
+
+one_of_reading : (language : Language) (rule : Strictness) (original : Reading) (form : List ℕ)
+    (d e : Option Difference) → IsVerdict language rule original form d → IsVerdict language rule original form e
+    → d ≡ e
+one_of_reading language rule (Format original) form d e x y = one_difference language rule original form d e x y
+one_of_reading language rule NoFormat form d e x y = x ∙ sym y
+one_of_reading language rule Unread form d e x y = x ∙ sym y
 
 one_verdict : (q : Question) (d e : Option Difference) → HasVerdict q d → HasVerdict q e → d ≡ e
-one_verdict q d e (inl (none, f)) (inl (also, g)) = f ∙ sym g
-one_verdict q d e (inl (none, f)) (inr (original, lists, y)) = absurd (none original lists)
-one_verdict q d e (inr (original, lists, x)) (inl (none, g)) = absurd (none original lists)
-one_verdict q d e (inr (a, f, x)) (inr (b, g, y)) =
-    let same : a ≡ b = one_arguments q.language q.original a b f g in
-    one_difference q.language q.rule b q.translation d e
-    (subst (λ (c : Asked). IsDifference q.language q.rule c q.translation d) same x) y
+one_verdict q d e (r, is, x) (s, also, y) =
+    let same : r ≡ s = one_reading q.language q.original r s is also in
+    one_of_reading q.language q.rule s q.translation d e
+    (subst (λ (c : Reading). IsVerdict q.language q.rule c q.translation d) same x) y
 
 pub one_list : (line : ℕ) (asked : List Question) (found others : List Fault) → AreFaults line asked found
     → AreFaults line asked others → found ≡ others

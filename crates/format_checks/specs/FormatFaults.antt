@@ -7,15 +7,17 @@ use Rattle.format_flags.specs.declared.languages.Language.{Language}
 use Rattle.format_flags.specs.declared.languages.Language.TheVariants.{Python, PythonBrace, Java, JavaPrintf, CSharp}
 use Rattle.format_flags.specs.declared.languages.Language.TheVariants.{JavaScript, Shell, Awk, Lua, ObjectPascal}
 use Rattle.format_flags.specs.declared.languages.Language.TheVariants.{Smalltalk, Qt, QtPlural, Kde, Tcl, Perl}
-use Rattle.format_flags.specs.declared.languages.Language.TheVariants.{Librep, KdeKuit, Boost}
+use Rattle.format_flags.specs.declared.languages.Language.TheVariants.{Librep, KdeKuit, Boost, Scheme, Lisp}
 use Rattle.format_flags.specs.declared.languages.Language.TheVariants.{PerlBrace, Php, GccInternal, Ycp}
 use Rattle.format_checks.specs.declared.Difference.{Difference}
 use Rattle.format_checks.specs.declared.Difference.TheVariants.{Invalid, Arguments}
+use Rattle.format_checks.specs.declared.Difference.TheVariants as differences
 use Rattle.format_checks.specs.declared.Fault.{Fault}
 use Rattle.format_flags.specs.FormatFlags.{has}
 use Rattle.format_checks.specs.FlaggedEntries as entries
 use Rattle.format_checks.specs.FlaggedEntries.{Entry, rule_for}
-use Rattle.format_checks.specs.FormatLanguages.{Asked, Lists, IsNoFormat, agree}
+use Rattle.format_checks.specs.FormatLanguages.{Asked, Lists, IsNoFormat, IsUnread, agree, Reading, Format}
+use Rattle.format_checks.specs.FormatLanguages.{NoFormat, Unread, IsReading}
 
 -- ---- what is compared
 
@@ -51,9 +53,9 @@ flagged_questions e often language = if has e.flags language then questions e of
 -- the languages whose formats are checked
 abbrev pub checked : List Language
 checked =
-    Python ∷ PythonBrace ∷ Java ∷ JavaPrintf ∷ CSharp ∷ JavaScript ∷ Librep ∷ Shell ∷ Awk ∷ Lua ∷ ObjectPascal
-    ∷ Smalltalk ∷ Qt ∷ QtPlural ∷ Kde ∷ KdeKuit ∷ Boost ∷ Tcl ∷ Perl ∷ PerlBrace ∷ Php ∷ GccInternal
-    ∷ Ycp ∷ []
+    Python ∷ PythonBrace ∷ Java ∷ JavaPrintf ∷ CSharp ∷ JavaScript ∷ Scheme ∷ Lisp ∷ Librep ∷ Shell ∷ Awk ∷ Lua
+    ∷ ObjectPascal ∷ Smalltalk ∷ Qt ∷ QtPlural ∷ Kde ∷ KdeKuit ∷ Boost ∷ Tcl ∷ Perl ∷ PerlBrace ∷ Php
+    ∷ GccInternal ∷ Ycp ∷ []
 
 -- those of each language that the entry is flagged with
 abbrev pub all_questions : Entry → List Bool → List Question
@@ -61,19 +63,24 @@ all_questions e often = flat_map (flagged_questions e often) checked
 
 -- ---- what is wrong
 
--- the form is a format whose arguments agree with these, or it isn't, or it is none
+-- the form is a format whose arguments agree with these, or it isn't, or it is none, or it is not read here
 abbrev pub IsDifference : Language → Strictness → Asked → List ℕ → Option Difference → Type 0
 IsDifference language rule original form None =
     (asked : Asked) × Lists language form asked × (agree language original asked rule ≡ true)
 IsDifference language rule original form (Some Arguments) =
     (asked : Asked) × Lists language form asked × (agree language original asked rule ≡ false)
 IsDifference language rule original form (Some Invalid) = IsNoFormat language form
+IsDifference language rule original form (Some differences.Unread) = IsUnread language form
 
--- an original that is no format is compared with nothing
+-- an original that is no format is compared with nothing, and with one that is not read here no form is
+abbrev pub IsVerdict : Language → Strictness → Reading → List ℕ → Option Difference → Type 0
+IsVerdict language rule (Format original) form verdict = IsDifference language rule original form verdict
+IsVerdict language rule NoFormat form verdict = verdict ≡ None
+IsVerdict language rule Unread form verdict = verdict ≡ Some differences.Unread
+
 abbrev pub HasVerdict : Question → Option Difference → Type 0
-HasVerdict q verdict = (IsNoFormat q.language q.original × (verdict ≡ None))
-    ⊎ ((original : Asked) × Lists q.language q.original original
-    × IsDifference q.language q.rule original q.translation verdict)
+HasVerdict q verdict = (original : Reading) × IsReading q.language q.original original
+    × IsVerdict q.language q.rule original q.translation verdict
 
 -- nothing is wrong with the form
 abbrev pub IsAccepted : Question → Type 0

@@ -12,7 +12,7 @@ use Rattle.format_flags.specs.declared.languages.Language.{Language}
 use Rattle.format_flags.specs.declared.languages.Language.TheVariants.{Python, PythonBrace, Java, JavaPrintf, CSharp}
 use Rattle.format_flags.specs.declared.languages.Language.TheVariants.{JavaScript, Shell, Awk, Lua, ObjectPascal}
 use Rattle.format_flags.specs.declared.languages.Language.TheVariants.{Smalltalk, Qt, QtPlural, Kde, Tcl, Perl}
-use Rattle.format_flags.specs.declared.languages.Language.TheVariants.{Librep, KdeKuit, Boost}
+use Rattle.format_flags.specs.declared.languages.Language.TheVariants.{Librep, KdeKuit, Boost, Scheme, Lisp}
 use Rattle.format_flags.specs.declared.languages.Language.TheVariants.{PerlBrace, Php, GccInternal, Ycp}
 use Rattle.python_format.specs.Format as python
 use Rattle.python_brace_format.specs.BraceFormat as brace
@@ -35,6 +35,12 @@ use Rattle.librep_format.specs.LibrepFormat as librep
 use Rattle.kuit_formats.specs.KuitFormat as kuit
 use Rattle.gcc_internal_format.specs.GccFormat as gcc_internal
 use Rattle.csharp_format.specs.CSharpAgreement as csharp_agreement
+use Rattle.lisp_formats.specs.declared.Kind as code_placed
+use Rattle.lisp_formats.specs.declared.LispFault.TheVariants as lisp_faults
+use Rattle.lisp_formats.specs.declared.Notation.{Notation as LispNotation}
+use Rattle.lisp_formats.specs.declared.Notation.TheVariants as lisps
+use Rattle.lisp_formats.specs.LispFormat as lisp_formats
+use Rattle.lisp_formats.specs.LispAgreement as lisp_agreement
 
 -- ---- arguments with names, or in the order of the text
 
@@ -112,7 +118,20 @@ numbered_agree language original translation rule =
     (option_map_or (λ notation. number_agreement.agree notation original translation rule) (number_of language)
     (others_agree language original translation rule))
 
--- ---- both
+-- ---- arguments by their places alone
+
+-- a language of lisp_formats
+abbrev pub lisp_of : Language → Option LispNotation
+lisp_of Scheme = Some lisps.Scheme
+lisp_of Lisp = Some lisps.Lisp
+lisp_of _ = None
+
+-- the text is a format of the language that asks for these arguments
+abbrev pub ListsPlaced : Language → List ℕ → List code_placed.Kind → Type 0
+ListsPlaced language text asked =
+    MatchOption (lisp_of language) ⊥ (λ notation. lisp_formats.HasSignature notation text asked)
+
+-- ---- all
 
 -- whether the arguments of the language's formats have names, or the order of the text
 abbrev pub is_named : Language → Bool
@@ -122,25 +141,49 @@ is_named Shell = true
 is_named PerlBrace = true
 is_named _ = false
 
--- the arguments of a format: by their names or in the order of the text, or by their numbers
+-- the arguments of a format: by their names or in the order of the text, by their numbers, or by their places alone
 pub data Asked : Type 0 where
   Named : (asked : List Argument) → Asked
   Numbered : (asked : List code_numbered.Numbered) → Asked
+  Placed : (asked : List code_placed.Kind) → Asked
 
 -- the text is a format of the language that asks for these arguments; of languages that aren't checked yet there are no
 -- formats
 abbrev pub Lists : Language → List ℕ → Asked → Type 0
 Lists language text (Named asked) = ListsNamed language text asked
 Lists language text (Numbered asked) = ListsNumbered language text asked
+Lists language text (Placed asked) = ListsPlaced language text asked
 
 abbrev pub HasFault : Language → List ℕ → FormatFault → Type 0
 HasFault language text Invalid = (asked : Asked) → ¬ Lists language text asked
 HasFault language text Memory = Unit {0}
 
+-- the text is not read here: it may be a format of the language
+abbrev pub IsUnread : Language → List ℕ → Type 0
+IsUnread language text = MatchOption (lisp_of language) ⊥ (λ notation. lisp_formats.IsUnread notation text)
+
 abbrev pub IsNoFormat : Language → List ℕ → Type 0
-IsNoFormat language text = HasFault language text Invalid
+IsNoFormat language text = ((asked : Asked) → ¬ Lists language text asked) × ¬ IsUnread language text
+
+-- what a text is read as
+pub data Reading : Type 0 where
+  Format : (asked : Asked) → Reading
+  NoFormat : Reading
+  Unread : Reading
+
+abbrev pub IsReading : Language → List ℕ → Reading → Type 0
+IsReading language text (Format asked) = Lists language text asked
+IsReading language text NoFormat = IsNoFormat language text
+IsReading language text Unread = IsUnread language text
+
+abbrev pub IsPlacedReading : LispNotation → List ℕ → Reading → Type 0
+IsPlacedReading notation text (Format (Placed asked)) = lisp_formats.HasSignature notation text asked
+IsPlacedReading notation text (Format _) = ⊥
+IsPlacedReading notation text NoFormat = lisp_formats.HasFault notation text lisp_faults.Invalid
+IsPlacedReading notation text Unread = lisp_formats.IsUnread notation text
 
 abbrev pub agree : Language → Asked → Asked → Strictness → Bool
 agree language (Named original) (Named translation) rule = named_agree language original translation rule
 agree language (Numbered original) (Numbered translation) rule = numbered_agree language original translation rule
+agree language (Placed original) (Placed translation) rule = lisp_agreement.agree original translation rule
 agree language _ _ rule = false

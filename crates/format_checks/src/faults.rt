@@ -1,13 +1,13 @@
 //! The faults of an entry's forms.
 ghost use Rattle.std.specs.Prelude.{◌≡◌, ◌↔◌, ◌++◌, [], ℕ, IfOk, OnOk, List};
 ghost use Rattle.std.specs.List.{AllByRecursion};
-ghost use Rattle.format_checks.specs.AskedViews.{asked_view};
+ghost use Rattle.format_checks.specs.AskedViews.{asked_view, reading_view};
 ghost use Rattle.format_checks.specs.FormatViews.{entry_view};
 ghost use Rattle.format_checks.specs.declared.Fault.{Fault as FaultValue};
 ghost use Rattle.format_checks.specs.FormatFaults as spec;
 
 use crate::entry::rule_for;
-use crate::languages::{Asked, agrees, arguments};
+use crate::languages::{Asked, Reading, agrees, read};
 use crate::{Difference, Entry, Fault};
 use format_arguments::Strictness;
 use format_flags::Language;
@@ -23,13 +23,32 @@ fn difference<'a>(
 ) -> Result<Option<Difference>, AllocError>
     ensures { IfOk result (λ found. spec.IsDifference language rule (asked_view original.now) form.now found) }
 {
-    let Some(asked) = arguments(alloc, language, form)? else {
-        return Ok(Some(Difference::Invalid))
+    let asked = match read(alloc, language, form)? {
+        Reading::Format(asked) => asked,
+        Reading::NoFormat => return Ok(Some(Difference::Invalid)),
+        Reading::Unread => return Ok(Some(Difference::Unread)),
     };
     if agrees(alloc, language, original, &asked, rule)? {
         Ok(None)
     } else {
         Ok(Some(Difference::Arguments))
+    }
+}
+
+/// What is wrong with a form, given what its original was read as.
+fn verdict<'a>(
+    alloc: Global,
+    language: Language,
+    rule: Strictness,
+    original: &Reading<'a>,
+    form: &'a [u8],
+) -> Result<Option<Difference>, AllocError>
+    ensures { IfOk result (λ found. spec.IsVerdict language rule (reading_view original.now) form.now found) }
+{
+    match original {
+        Reading::Format(asked) => difference(alloc, language, rule, asked, form),
+        Reading::NoFormat => Ok(None),
+        Reading::Unread => Ok(Some(Difference::Unread)),
     }
 }
 
@@ -72,13 +91,11 @@ fn add_language_faults(
     if !entry.flags.has(language) {
         return Ok(());
     }
-    let Some(original) = arguments(alloc, language, entry.original())? else {
-        return Ok(())
-    };
+    let original = read(alloc, language, entry.original())?;
     let mut form = 0;
     'forms: for text in entry.forms {
         let rule = rule_for(entry, often, form);
-        let found = difference(alloc, language, rule, &original, *text)?;
+        let found = verdict(alloc, language, rule, &original, *text)?;
         add_fault(faults, fault_of(entry.line, language, form, found))?;
         form += 1;
     }
@@ -93,6 +110,8 @@ const CHECKED: &[Language] = &[
     Language::JavaPrintf,
     Language::CSharp,
     Language::JavaScript,
+    Language::Scheme,
+    Language::Lisp,
     Language::Librep,
     Language::Shell,
     Language::Awk,

@@ -1,11 +1,12 @@
 //! Formats of each language: their arguments, and when two formats agree.
-ghost use Rattle.std.specs.Prelude.{◌≡◌, IfOk, IfErr, MatchOption, map};
+ghost use Rattle.std.specs.Prelude.{◌≡◌, IfOk, IfErr, None, map};
 ghost use Rattle.format_arguments.specs.ArgumentViews.{argument_view};
 ghost use Rattle.format_checks.specs.FormatLanguages as spec;
-ghost use Rattle.format_checks.specs.AskedViews.{asked_view};
+ghost use Rattle.format_checks.specs.AskedViews.{asked_view, reading_view};
 
 use format_arguments::{Argument, FormatFault, Strictness};
 use format_flags::Language;
+use lisp_formats::{Kind as Placed, LispFault, Notation as Lisps};
 use named_formats::Notation as Names;
 use numbered_arguments::Numbered;
 use numbered_formats::Notation as Numbers;
@@ -19,6 +20,19 @@ pub(crate) enum Asked<'a> {
     Named(Vec<Argument<'a>>),
     /// by their numbers
     Numbered(Vec<Numbered>),
+    /// by their places alone
+    Placed(Vec<Placed>),
+}
+
+/// What a text was read as.
+#[derive(Drop)]
+pub(crate) enum Reading<'a> {
+    /// a format that asks for these
+    Format(Asked<'a>),
+    /// no format of the language
+    NoFormat,
+    /// a text that is not read here, which may be a format
+    Unread,
 }
 
 /// Whether the arguments of a language's formats have names, or the order of the text.
@@ -106,10 +120,11 @@ fn numbered_arguments(
     }
 }
 
-/// The arguments of a format of the language. No text is a format of a language that isn't checked yet.
+/// The arguments of a format of the language, if it has names or numbers. No text is a format of a language that isn't
+/// checked yet.
 fn signature(alloc: Global, language: Language, text: &[u8]) -> Result<Asked<'_>, FormatFault>
     ensures ok { IfOk result (λ asked. spec.Lists language text.now (asked_view asked)) }
-    ensures err { IfErr result (λ fault. spec.HasFault language text.now fault) }
+    ensures err { spec.lisp_of language ≡ None → IfErr result (λ fault. spec.HasFault language text.now fault) }
 {
     if is_named(language) {
         Ok(Asked::Named(named_arguments(alloc, language, text)?))
@@ -118,19 +133,51 @@ fn signature(alloc: Global, language: Language, text: &[u8]) -> Result<Asked<'_>
     }
 }
 
-/// The arguments of a text, if it is a format of the language. The only error is a failed allocation.
-pub(crate) fn arguments(
+/// Reads a format that has names or numbers.
+fn read_other(alloc: Global, language: Language, text: &[u8]) -> Result<Reading<'_>, AllocError>
+    ensures { spec.lisp_of language ≡ None →
+        IfOk result (λ reading. spec.IsReading language text.now (reading_view reading)) }
+{
+    match signature(alloc, language, text) {
+        Ok(asked) => Ok(Reading::Format(asked)),
+        Err(FormatFault::Invalid) => Ok(Reading::NoFormat),
+        Err(FormatFault::Memory) => Err(AllocError),
+    }
+}
+
+fn lisp_of(language: Language) -> Option<Lisps>
+    ensures { result ≡ spec.lisp_of language }
+{
+    match language {
+        Language::Scheme => Some(Lisps::Scheme),
+        Language::Lisp => Some(Lisps::Lisp),
+        _ => None,
+    }
+}
+
+/// Reads a format of Scheme or of Lisp.
+fn read_placed(alloc: Global, notation: Lisps, text: &[u8]) -> Result<Reading<'_>, AllocError>
+    ensures { IfOk result (λ reading. spec.IsPlacedReading notation text.now (reading_view reading)) }
+{
+    match lisp_formats::signature(alloc, notation, text) {
+        Ok(asked) => Ok(Reading::Format(Asked::Placed(asked))),
+        Err(LispFault::Invalid) => Ok(Reading::NoFormat),
+        Err(LispFault::Unread) => Ok(Reading::Unread),
+        Err(LispFault::Memory) => Err(AllocError),
+    }
+}
+
+/// Reads a text as a format of the language. The only error is a failed allocation.
+pub(crate) fn read(
     alloc: Global,
     language: Language,
     text: &[u8],
-) -> Result<Option<Asked<'_>>, AllocError>
-    ensures { IfOk result (λ found. MatchOption found (spec.IsNoFormat language text.now)
-        (λ asked. spec.Lists language text.now (asked_view asked))) }
+) -> Result<Reading<'_>, AllocError>
+    ensures { IfOk result (λ reading. spec.IsReading language text.now (reading_view reading)) }
 {
-    match signature(alloc, language, text) {
-        Ok(asked) => Ok(Some(asked)),
-        Err(FormatFault::Invalid) => Ok(None),
-        Err(FormatFault::Memory) => Err(AllocError),
+    match lisp_of(language) {
+        Some(notation) => read_placed(alloc, notation, text),
+        None => read_other(alloc, language, text),
     }
 }
 
@@ -193,13 +240,17 @@ pub(crate) fn agrees<'a>(
     match original {
         Asked::Named(original) => match translation {
             Asked::Named(translation) => named_agree(alloc, language, original, translation, rule),
-            Asked::Numbered(_) => Ok(false),
+            _ => Ok(false),
         },
         Asked::Numbered(original) => match translation {
-            Asked::Named(_) => Ok(false),
             Asked::Numbered(translation) => {
                 numbered_agree(alloc, language, original, translation, rule)
             }
+            _ => Ok(false),
+        },
+        Asked::Placed(original) => match translation {
+            Asked::Placed(translation) => Ok(lisp_formats::agrees(original, translation, rule)),
+            _ => Ok(false),
         },
     }
 }

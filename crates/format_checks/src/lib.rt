@@ -10,13 +10,15 @@ pub use entry::Entry;
 pub use faults::{add_faults, one_list};
 pub use format_flags::{Flags, Language};
 
-/// What is wrong with a form whose original is a format.
+/// What is wrong with a form whose original is a format, or may be one.
 #[derive(Clone, Copy, Debug, PartialEq, Eq)]
 pub enum Difference {
     /// The form is no format.
     Invalid,
     /// Its arguments don't agree with the original's.
     Arguments,
+    /// Unknown: the form, or its original, is a format that is not read here.
+    Unread,
 }
 
 /// A fault of one form.

@@ -48,10 +48,12 @@ const BRACE: &[&str] = &["python-brace-format"];
 
 const PHP: &[&str] = &["php-format"];
 
+const SCHEME: &[&str] = &["scheme-format"];
+
 const PHP_AND_BRACE: &[&str] = &["php-format", "python-brace-format"];
 
-/// The rule of these is `n==1 ? 0 : n==2 ? 1 : 2`.
-const CASES: [Case; 12] = [
+/// The rule of these is `n==1 ? 0 : n==2 ? 1 : 2`. The formats of the last two are left to GNU msgfmt.
+const CASES: [Case; 14] = [
     Case {
         flags: BOTH,
         id: b"one",
@@ -147,6 +149,22 @@ const CASES: [Case; 12] = [
         forms: &[b"%2$s"],
         count: 1,
         first: Some((Language::Php, 0, Difference::Arguments)),
+    },
+    Case {
+        flags: SCHEME,
+        id: b"~a",
+        plural: None,
+        forms: &[b"~{~a~}"],
+        count: 1,
+        first: Some((Language::Scheme, 0, Difference::Unread)),
+    },
+    Case {
+        flags: SCHEME,
+        id: b"one",
+        plural: Some(b"~{~a~}"),
+        forms: &[b"~a", b"~z", b"~a"],
+        count: 3,
+        first: Some((Language::Scheme, 0, Difference::Unread)),
     },
 ];
 

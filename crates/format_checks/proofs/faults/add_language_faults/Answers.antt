@@ -1,20 +1,11 @@
 use Rattle.std.proofs.Common.{◌+◌, ◌++◌, ◌∙◌, ℕ, Option, map, drop, arith, ap, sym, refl}
 use Rattle.std.proofs.lemmas.List.{drop_more, drop_all}
-use Rattle.format_checks.specs.AskedViews.{asked_view}
+use Rattle.format_checks.specs.AskedViews.{reading_view}
 use Rattle.format_checks.specs.FormatViews.{entry_view}
 use Rattle.format_checks.specs.declared.Fault.{Fault}
 use Rattle.format_checks.specs.FormatFaults.{list_of}
-use Rattle.format_checks.proofs.FaultLemmas.{adds_flagged, adds_none, compared_none, compared_more}
-use Rattle.format_checks.proofs.FaultLemmas.{compared_all, verdict_of, none_of}
+use Rattle.format_checks.proofs.FaultLemmas.{adds_flagged, compared_none, compared_more, compared_all, verdict_of}
 use Rattle.format_checks.proofs.faults.add_language_faults.Goals as goal
-
-pub returns-in_default : goal.returns-in_default
-returns-in_default c =
-    let e = entry_view c.args.entry in
-    adds_flagged c.args.entry.line e c.args.often.now c.args.language _ _ (sym c.if-not-has.ensures)
-    (adds_none c.args.entry.line e c.args.often.now c.args.language c.args.faults.now.items
-    (none_of c.args.language c.original.result.now _ c.original.ensures
-    (rw c.in_default.is at c.in_ok-original.ensures)))
 
 pub forms-init : goal.forms-init
 forms-init c = (
@@ -31,8 +22,8 @@ forms-preserved c =
     let index = c.forms.text-index in
     let cut = drop_more forms index _ c.forms-test.true in
     let verdict = verdict_of e c.args.often.now c.args.language c.forms.form _ c.original.result.now
-    c.rule_for-rule.result (asked_view c.in-Some.original) _ c.in_ok-found.found c.original.ensures
-    (rw c.in-Some.is at c.in_ok-original.ensures) c.rule_for-rule.ensures (ap asked_view c.forms.invariant.2)
+    c.rule_for-rule.result (reading_view c.in_ok-original.original) _ c.in_ok-found.found c.original.ensures
+    c.in_ok-original.ensures c.rule_for-rule.ensures (ap reading_view c.forms.invariant.2)
     c.in_ok-found.ensures in (
       ap (λ (k : ℕ). k + 1) c.forms.invariant.0,
       compared_more c.args.entry.line e c.args.often.now c.args.language c.forms.form (c.forms.form + 1)
