@@ -1,12 +1,13 @@
 -- A trace is one without its closings, too.
-use Rattle.std.proofs.Common.{◌≡◌, ℕ, List, [], ◌∷◌, refl, sym, ap, subst}
+use Rattle.std.proofs.Common.{◌≡◌, ℕ, List, [], ◌∷◌, refl, ap, subst}
 use Rattle.c_sets.specs.Making.{IsSetAnswer, set_number}
 use Rattle.c_stores.specs.Storing.{IsNewStore, IsReclaimed, IsStoreNumber, IsNoticeOf, IsEntranceOf, IsLeft}
 use Rattle.c_handles.specs.Calls.{Handle, Unused, Open, Closed, Handles, Call, OpensStore, Loads, Publishes, Reclaims}
 use Rattle.c_handles.specs.Calls.{CountsStore, ClosesStore, MakesNotice, ClosesNotice, MakesEntrance, ClosesEntrance}
 use Rattle.c_handles.specs.Calls.{MakesReader, Enters, EntersAfter, Leaves, Looks, LooksAt, CountsReader, ClosesReader}
 use Rattle.c_handles.specs.Calls.{AgreesWith, no_handles, IsOpen, IsClosed, IsUnused, Makes, Turns, Closes, HasFault}
-use Rattle.c_handles.specs.Calls.{LoadsInto, PublishesIn, IsMadeAt, EntersIn, EntersAfterIn, LooksAtIn, AgreesIn, IsStep}
+use Rattle.c_handles.specs.Calls.{LoadsInto, PublishesIn, IsMadeAt, EntersIn, EntersAfterIn, LooksAtIn, AgreesIn}
+use Rattle.c_handles.specs.Calls.{IsStep}
 use Rattle.c_handles.specs.Calls.{IsTrace}
 use Rattle.c_handles.specs.Closings.{kept, all_kept, without_closings, ClosingsMayComeLast}
 use Rattle.c_handles.proofs.Slots.{changed, here}
@@ -43,8 +44,8 @@ turns_kept Is n before after is = record {
 }
 
 same_kept : {V : Type 0} (before after : ℕ → Handle V) → after ≡ before
-    → (λ (k : ℕ). kept (after k)) ≡ (λ (k : ℕ). kept (before k))
-same_kept {V} before after is = ap (λ (f : ℕ → Handle V) (k : ℕ). kept (f k)) is
+    → ◌≡◌ {A = ℕ → Handle V} (λ k. kept (after k)) (λ k. kept (before k))
+same_kept before after is = λ i k. kept (is i k)
 
 closed_kept : {V : Type 0} (x y : Handle V) → IsOpen (λ old. IsClosed (λ last. last ≡ old) y) x → kept y ≡ kept x
 closed_kept Unused y is = absurd is
@@ -54,7 +55,7 @@ closed_kept (Open v) (Open w) is = absurd is
 closed_kept {V} (Open v) (Closed w) is = ap (λ (u : V). Open u) is
 
 closes_kept : {V : Type 0} (n : ℕ) (before after : ℕ → Handle V) → Closes n before after
-    → (λ (k : ℕ). kept (after k)) ≡ (λ (k : ℕ). kept (before k))
+    → ◌≡◌ {A = ℕ → Handle V} (λ k. kept (after k)) (λ k. kept (before k))
 closes_kept n before after is = λ i k. changed k n before after (λ b x. kept x ≡ kept (before k)) is.others refl
     (λ same. closed_kept (before k) (after k)
     (here k n before after (λ x y. IsOpen (λ old. IsClosed (λ last. last ≡ old) y) x) same is.closed)) i

@@ -17,7 +17,7 @@ use Rattle.c_stores.specs.Storing.{IsEntranceOf, IsReaderFrom, IsEntered, IsLeft
 use Rattle.c_stores.specs.declared.stores.HeldStore.{HeldStore}
 use Rattle.c_stores.specs.declared.stores.HeldNotice.{HeldNotice}
 use Rattle.c_stores.specs.declared.stores.HeldEntrance.{HeldEntrance}
-use Rattle.c_handles.specs.Agreement.{AreOfOneStore, Agrees}
+use Rattle.c_handles.specs.HandleAgreement.{AreOfOneStore, Agrees}
 
 -- ---- handles
 

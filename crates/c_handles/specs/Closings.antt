@@ -1,7 +1,7 @@
 -- Closings may be listed last: until then all handles are open.
 use Rattle.std.specs.Prelude.{List, [], ◌∷◌}
-use Rattle.c_handles.specs.Calls.{Handle, Unused, Open, Closed, Handles, Call, ClosesStore, ClosesNotice, ClosesEntrance}
-use Rattle.c_handles.specs.Calls.{ClosesReader, no_handles, IsTrace}
+use Rattle.c_handles.specs.Calls.{Handle, Unused, Open, Closed, Handles, Call, ClosesStore, ClosesNotice}
+use Rattle.c_handles.specs.Calls.{ClosesEntrance, ClosesReader, no_handles, IsTrace}
 
 -- the handle before it was closed
 abbrev pub kept : {V : Type 0} → Handle V → Handle V

@@ -1,4 +1,4 @@
-pub mod Agreement
+pub mod HandleAgreement
 pub mod Calls
 pub mod HandleActs
 pub mod OneHistory

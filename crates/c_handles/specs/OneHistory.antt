@@ -63,7 +63,7 @@ abbrev pub ReadersStay : Type 0
 ReadersStay = (trace : List Call) (h : Handles) (store reader : ℕ) (s : StoreValue) → IsTrace no_handles trace h
     → store_in (h.stores store) ≡ Some s → IsReaderOf store trace reader → HasBookOf s (h.readers reader)
 
--- whatever a program does with its handles, a store has one history with its readers, whenever they are at hand together
+-- whatever a program does with its handles, a store has one history with its readers whenever they are at hand together
 abbrev pub HandlesHaveOneHistory : Type 0
 HandlesHaveOneHistory = (trace : List Call) (h : Handles) (store : ℕ) (s : StoreValue) (readers : List ℕ)
     → IsTrace no_handles (trace ++ agreements store readers) h → store_in (h.stores store) ≡ Some s

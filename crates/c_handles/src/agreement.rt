@@ -1,6 +1,6 @@
 //! What a program with a store and one of its readers at hand knows of both.
 ghost use Rattle.std.specs.Prelude.{◌≡◌};
-ghost use Rattle.c_handles.specs.Agreement.{AreOfOneStore, Agrees};
+ghost use Rattle.c_handles.specs.HandleAgreement.{AreOfOneStore, Agrees};
 
 use c_sets::{HeldSet, Origin};
 use c_stores::HeldStore;

@@ -10,7 +10,8 @@ ghost use Rattle.c_handles.specs.OneHistory.{HandlesHaveOneHistory, ReadersGoOn,
 /// notices that it entered after.
 ///
 /// A trace lists the calls one after another, so that each takes its handles as the calls before left them. Calls on
-/// different handles may be listed in either order; so a closing may be listed last, since no later call has its handle.
+/// different handles may be listed in either order; so a closing may be listed last, since no later call has its
+/// handle.
 ///
 /// The history is that of a store and readers which are at hand together, when no call is running. Then `agree` may be
 /// called for each of these readers. It is proved to say that what the reader has seen is a beginning of what is

@@ -1,5 +1,5 @@
--- Translations whose directives have the flag `I`, for the digits of the locale (GNU gettext manual, "c-format Strings";
--- glibc, "Integer Conversions").
+-- Translations whose directives have the flag `I`, for the digits of the locale (GNU gettext manual, "c-format"; glibc,
+-- "Integer Conversions").
 use Rattle.std.specs.Prelude.{◌≡◌, ℕ, false, List}
 use Rattle.std.specs.List.{Any, list_all}
 use Rattle.mo_image.specs.Entry.{Entry}

@@ -188,7 +188,7 @@ no_numbered language text Memory is none other = none
 
 pub no_format : (language : Language) (text : List ℕ) → lisp_of language ≡ None → HasFault language text Invalid
     → IsNoFormat language text
-no_format language text none no = (no, λ unread. absurd (rw none at unread))
+no_format language text none nothing = (nothing, λ unread. absurd (rw none at unread))
 
 no_lisp : (language : Language) (notation : LispNotation) (text : List ℕ) → lisp_of language ≡ Some notation
     → ((asked : List code_placed.Kind) → ¬ lisp_formats.HasSignature notation text asked) → (asked : Asked)

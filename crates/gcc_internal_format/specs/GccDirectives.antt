@@ -1,5 +1,5 @@
--- Directives of GCC's diagnostics, from behind the `%` (GNU gettext manual, "GCC internal Format Strings"; GCC's sources:
--- ABOUT-GCC-NLS, pretty-print.c, c/c-objc-common.c and cp/error.c).
+-- Directives of GCC's diagnostics, from behind the `%` (GNU gettext manual, "GCC internal Format Strings"; GCC's
+-- sources: ABOUT-GCC-NLS, pretty-print.c, c/c-objc-common.c and cp/error.c).
 use Rattle.std.specs.Prelude.{◌≡◌, ℕ, ◌+◌, nat_lt, Bool, true, false, ◌&&◌, ◌||◌, ◌==◌, if◌then◌else◌, List, [], ◌∷◌}
 use Rattle.std.specs.Prelude.{Option, None, Some, option_map, codes}
 use Rattle.std.specs.List.{list_any, count_by}

@@ -1,5 +1,5 @@
--- What only the directives of GCC print, and the kinds that stand for it: only whether two are the same matters, so each
--- has a kind that no plain argument of GCC has.
+-- What only the directives of GCC print, and the kinds that stand for it: only whether two are the same matters, so
+-- each has a kind that no plain argument of GCC has.
 use Rattle.std.specs.Prelude.{}
 use Rattle.numbered_arguments.specs.declared.Kind.{Kind}
 use Rattle.numbered_arguments.specs.declared.Kind.TheVariants.{Any, Character, Text, Integer, Unsigned, Float, Vector}

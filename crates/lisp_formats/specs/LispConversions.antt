@@ -1,5 +1,5 @@
--- Conversions: which there are, which parameters each expects, and what each asks for (GNU gettext manual, "Scheme Format
--- Strings" and "Lisp Format Strings"; GNU Guile's manual, "Formatted Output"; Common Lisp HyperSpec, section 22.3).
+-- Conversions: which there are, which parameters each expects, and what each asks for (GNU gettext manual, "Scheme
+-- Format Strings" and "Lisp Format Strings"; GNU Guile, "Formatted Output"; Common Lisp HyperSpec, section 22.3).
 use Rattle.std.specs.Prelude.{ℕ, Bool, true, false, ◌==◌, if◌then◌else◌, List, [], ◌∷◌, Option, None, Some, codes}
 use Rattle.std.specs.List.{list_any}
 use Rattle.lisp_formats.specs.declared.Notation.{Notation}

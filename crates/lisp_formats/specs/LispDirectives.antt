@@ -1,4 +1,4 @@
--- Directives: their parameters, modifiers and conversion (Common Lisp HyperSpec, section 22.3; GNU Guile's manual,
+-- Directives: their parameters, modifiers and conversion (Common Lisp HyperSpec, section 22.3; GNU Guile,
 -- "Formatted Output").
 use Rattle.std.specs.Prelude.{◌≡◌, ℕ, Bool, true, false, ◌||◌, ◌==◌, if◌then◌else◌, List, [], ◌∷◌, ◌++◌, Option, None}
 use Rattle.std.specs.Prelude.{Some}

@@ -1,4 +1,4 @@
--- Parameters of directives (Common Lisp HyperSpec, section 22.3; GNU Guile's manual, "Formatted Output").
+-- Parameters of directives (Common Lisp HyperSpec, section 22.3; GNU Guile, "Formatted Output").
 use Rattle.std.specs.Prelude.{◌≡◌, ℕ, Bool, ◌||◌, ◌==◌, if◌then◌else◌, List, [], ◌∷◌, Option, None, Some}
 use Rattle.std.specs.Char.{is_ascii_digit}
 use Rattle.format_arguments.specs.Bytes.{behind, BeginsNot}

@@ -1,5 +1,5 @@
 //! Argument lists of formats of Scheme and of Lisp: which arguments a text for `format` asks for (GNU gettext manual,
-//! "Scheme Format Strings" and "Lisp Format Strings"; GNU Guile's manual, "Formatted Output"; Common Lisp HyperSpec,
+//! "Scheme Format Strings" and "Lisp Format Strings"; GNU Guile, "Formatted Output"; Common Lisp HyperSpec,
 //! section 22.3). Formats with jumps, groups, choices, loops or functions are not read.
 #![tactic(auto)]
 

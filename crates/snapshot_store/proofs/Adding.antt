@@ -8,7 +8,8 @@ use Rattle.std.proofs.lemmas.Bool.Decides.{nat_tests}
 use lib.Dec.{leb}
 use mathlib.Core.List.{IsPrefix}
 use prog.Atomic.{either}
-use Rattle.logbook.specs.Pages.{Cell, cell, keeps, gives, adds, Nib, nib, no_nib, may_write, may_make, step, Moves, Goes}
+use Rattle.logbook.specs.Pages.{Cell, cell, keeps, gives, adds, Nib, nib, no_nib, may_write, may_make, step, Moves}
+use Rattle.logbook.specs.Pages.{Goes}
 use Rattle.live_set.specs.Loads.{LoadValue}
 use Rattle.snapshot_store.specs.SlotBook.{Event, AreGiven, IsKept, Begins, Adds, Shows, Looks, Waits, batches_of}
 use Rattle.snapshot_store.specs.SlotBook.{shown_of}
@@ -263,8 +264,8 @@ shows_goes log v n m old new_at value a turns at len one next slot kept pre insi
       ),
     )
 
-pub shows_moves : (v : Log) (n m old new_at value : ℕ) (a : Event) → length (batches_of v) ≡ n → n ≡ m + 1 → m ≡ old / 64
-    → new_at < 64
+pub shows_moves : (v : Log) (n m old new_at value : ℕ) (a : Event) → length (batches_of v) ≡ n → n ≡ m + 1
+    → m ≡ old / 64 → new_at < 64
     → Moves IsKept clients moved 1 (v, (nib may_write (suc (suc m)) value, None))
     (λ k. either (k == old) (n * 64 + new_at) k)
     (Shows n (step 1 old (n * 64 + new_at) a) (v, (nib may_write (suc (suc m)) value, None)))

@@ -1,7 +1,7 @@
 -- Private: what the book of a store keeps: the batches that were made, which version was shown last, and whose turn it
 -- is to show the next one.
-use Rattle.std.specs.Prelude.{◌≡◌, ◌≢◌, ℕ, zero, suc, ◌+◌, ◌*◌, ◌/◌, ◌^◌, ◌<◌, ◌≤◌, List, [], ◌∷◌, ◌++◌, true, length, max}
-use Rattle.std.specs.Prelude.{◌⊎◌}
+use Rattle.std.specs.Prelude.{◌≡◌, ◌≢◌, ℕ, zero, suc, ◌+◌, ◌*◌, ◌/◌, ◌^◌, ◌<◌, ◌≤◌, List, [], ◌∷◌, ◌++◌}
+use Rattle.std.specs.Prelude.{◌⊎◌, true, length, max}
 use Rattle.logbook.specs.Pages.{Cell, cell, Book, Named, Nib, nib, may_write, may_make, Step, View}
 use Rattle.live_set.specs.Loads.{LoadValue}
 

@@ -1,8 +1,8 @@
 //! The batches of a store as its book keeps them, and beginnings of them that were seen.
 //!
-//! A book is a history that exists in proofs alone (`logbook`). Its words are two numbers at run time: how many turns to
-//! show a version were given, and how many batches are shown. A `Seen` is a beginning of the history. A `Turn` exists in
-//! proofs alone, too.
+//! A book is a history that exists in proofs alone (`logbook`). Its words are two numbers at run time: how many turns
+//! to show a version were given, and how many batches are shown. A `Seen` is a beginning of the history. A `Turn`
+//! exists in proofs alone, too.
 ghost use Rattle.std.specs.Prelude.{◌≡◌, ◌≢◌, ◌+◌, ◌*◌, ◌/◌, ◌%◌, ◌<◌, ◌≤◌, ◌^◌, ◌++◌, ◌∷◌, []};
 ghost use Rattle.std.specs.Prelude.{length, MatchBool, IfSome, IfOk, IfErr};
 ghost use Rattle.live_loads.specs.Batches.{StartsWith};
