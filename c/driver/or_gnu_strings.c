@@ -98,6 +98,21 @@ bool ends_with_newline(struct part string) {
     return byte == '\n';
 }
 
+static bool is_octal_escape(struct part text) {
+    return text.end - text.at > 1 && text.at[0] == '\\' && text.at[1] >= '0' && text.at[1] <= '7';
+}
+
+bool may_have_digits_flag(struct part text) {
+    for (const char *at = text.at; at && at < text.end && (at = memchr(at, '%', (size_t)(text.end - at)));) {
+        for (at++; at < text.end && *at && strchr("0123456789$-+ #'I\"\t\n\r", *at); at++)
+            if (*at == 'I')
+                return true;
+        if (is_octal_escape((struct part){at, text.end}))
+            return true;
+    }
+    return false;
+}
+
 bool names_macro(struct part text) {
     for (const char *at = text.at; at && at < text.end && (at = memchr(at, '%', (size_t)(text.end - at)));) {
         for (at++; at < text.end && *at && strchr("0123456789$-+ #'I*.", *at);)

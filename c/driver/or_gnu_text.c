@@ -97,7 +97,8 @@ static void look_at_kept(struct scan *scan, const struct entry *entry) {
     bool has_macro = flags->c_format && may_depend;
     struct part forms = {entry->form.at, entry->whole.end};
     scan->needs.plain_macros += may_depend && !has_macro && (names_macro(entry->id) || names_macro(forms));
-    scan->needs.is_dependent |= has_macro;
+    bool has_flag = flags->c_format && has_library() && may_have_digits_flag(forms);
+    scan->needs.is_dependent |= has_macro || has_flag;
     scan->needs.helps |= has_macro && !has_library();
     if (has_macro && !has_library())
         needs_gnu_for(scan, "system-dependent format");

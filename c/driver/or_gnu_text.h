@@ -59,6 +59,9 @@ int next_byte(struct spelled *strings);
 bool skip_behind(struct spelled *strings, const char *word);
 /* Whether a text has a directive with a macro, such as `%08<PRIx64>`, as far as that isn't cut into several strings. */
 bool names_macro(struct part text);
+/* Whether the strings of a keyword may have a directive with the flag `I`, which libkobdzila then decides. A `%` that is
+ * spelled as an escape isn't seen. */
+bool may_have_digits_flag(struct part text);
 /* Whether the string between two quotes begins or ends with a newline. */
 bool begins_with_newline(struct part string);
 bool ends_with_newline(struct part string);

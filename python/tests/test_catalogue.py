@@ -65,6 +65,13 @@ SYSTEM_DEPENDENT = bytes.fromhex(
 )
 # The text that it writes this file of.
 SYSTEM_TEXT = b'msgid "s"\nmsgstr "S"\n#, c-format\nmsgid "n %<PRIu64>"\nmsgstr "%<PRIu64> N"\n'
+# What GNU msgfmt writes of a message with the flag I, which has revision 1.1.
+DIGITS_TEXT = b'#, c-format\nmsgid "%d"\nmsgstr "%Id"\n'
+DIGITS = bytes.fromhex(
+    "de120495010001000000000030000000300000000300000030000000010000003c000000010000004400000048000000"
+    "000000000000000000000000020000006c0000004c000000580000006e00000003000000ffffffff7100000001000000"
+    "0000000002000000ffffffff4900256400256400"
+)
 FORMS = 25
 
 
@@ -92,6 +99,12 @@ class OpeningTest(unittest.TestCase):
         with self.assertRaises(Refused) as caught:
             Catalogue.from_po(SYSTEM_TEXT.replace(b"%<PRIu64> N", b"%<PRId64> N"), checked=True)
         self.assertEqual(caught.exception.fault, Fault.PO_FORMAT_MISMATCH)
+
+    def test_text_with_digits(self) -> None:
+        catalogue = Catalogue.from_po(DIGITS_TEXT, checked=True)
+        self.assertEqual((catalogue.mo_file(), catalogue.gettext("%d")), (DIGITS, "%Id"))
+        plain = Catalogue.from_po(DIGITS_TEXT.replace(b"#, c-format", b"#, no-c-format"))
+        self.assertEqual((plain.mo_file()[4:8], plain.gettext("%d")), (bytes(4), "%Id"))
 
     def test_formats(self) -> None:
         file = french().mo_file()

@@ -28,6 +28,11 @@ catalogues() {
   for it in bytes/*.po; do
     "$program" -o none.mo "$it" 2> said || ! grep -q ': system-dependent format$' said || mv "$it" macros
   done
+  # (so are those with the flag I, of which libkobdzila writes a file of another revision)
+  for it in bytes/*.po; do
+    run --no-gnu --force -q "$it"
+    [ ! -f "${it%.po}.mo" ] || ! od -An -tu1 -j4 -N1 "${it%.po}.mo" | grep -q 1 || mv "$it" macros
+  done
   for it in macros/*.po; do
     [ -f "$it" ] && grep -q 'charset=UTF-8' "$it" && sed -i '/^"POT-Creation-Date:/d' "$it" || rm -f "$it"
   done
@@ -410,6 +415,8 @@ says 'compile, another charset, --no-gnu' 1 'euc/zh.po:5: not UTF-8' --no-gnu -q
 holds 'compile, another charset, --no-gnu: nothing is written' is_absent euc/zh.mo
 says 'compile, flags in #=, --no-gnu' 1 'flags.po:4: flags in a line #= need GNU msgfmt' --no-gnu -q flags.po
 { header UTF-8 fr && printf '#, c-format\nmsgid "%%<PRIu64> of %%d"\nmsgstr "%%2$Id, %%1$<PRIu64>"\n\nmsgid "a"\nmsgstr "b"\n'; } > macros/fr.po
+{ header UTF-8 fa && printf '#, c-format\nmsgid "%%d"\nmsgstr "%%Id"\n'; } > macros/fa.po
+says 'compile, the flag I, --no-gnu' 0 'macros/fa.po: 1 translated message.' --no-gnu -q -c --statistics macros/fa.po
 says 'compile, macros, --no-gnu' 0 'macros/fr.po: 2 translated messages.' --no-gnu -q -c --statistics macros/fr.po
 { header UTF-8 fr && printf '#, c-format\nmsgid "%%<PRIu64>"\nmsgstr "%%<PRId64>"\n'; } > wrong.po
 says 'compile, a macro of another type, --no-gnu' 1 'wrong.po:5: format arguments differ' --no-gnu -q -c wrong.po

@@ -93,6 +93,24 @@ answers 'no macro but its letters' ours "$c"'msgid "<PRId64>"\nmsgstr "a <PRId64
 answers 'a macro and an undefined size' 'GNU\t0\tsystem-dependent format' "$c"'msgid "%%Zu %%<PRId64>"\nmsgstr "%%Zu %%<PRId64>"\n'
 answers 'a macro without the flag, and one with it' ours "$macro$c"'msgid "%%<PRIu8>"\nmsgstr "%%<PRIu8>"\n'
 answers 'the flag I and a macro' ours "$c"'msgid "%%<PRId64> %%d"\nmsgstr "%%I<PRId64> %%-I5d"\n' -c
+answers 'the flag I alone' ours "$c"'msgid "%%d %%s"\nmsgstr "%%2$s %%1$Id"\n' -c
+answers 'the flag I in the next string' ours "$c"'msgid "%%d"\nmsgstr "%%-"\n"I5d"\n'
+answers 'the flag I, as an escape' ours "$c"'msgid "%%d"\nmsgstr "%%\\111d"\n'
+answers 'the flag I in both texts' ours "$c"'msgid "%%Id"\nmsgstr "%%Id"\n' -c
+answers 'the flag I in the msgid' ours "$c"'msgid "%%Id"\nmsgstr "%%d"\n'
+answers 'the flag I in a plural' ours "$c"'msgid "%%d a"\nmsgid_plural "%%d b"\nmsgstr[0] "c"\nmsgstr[1] "%%Id d"\n' -c
+answers 'the flag I of the plural alone' ours "$c"'msgid "a"\nmsgid_plural "%%Id b"\nmsgstr[0] "c"\nmsgstr[1] "d"\n'
+answers 'the flag I with a context' ours "$c"'msgctxt "%%Id"\nmsgid "%%d"\nmsgstr "%%Id"\n' -c
+answers 'the flag I beside other messages' ours "$ab$c"'msgid "%%d"\nmsgstr "%%Id"\n' --statistics
+answers 'the flag I, fuzzy' ours "$ab"'#, c-format, fuzzy\nmsgid "%%d"\nmsgstr "%%Id"\n'
+answers 'the flag I, fuzzy' ours "$ab"'#, c-format, fuzzy\nmsgid "%%d"\nmsgstr "%%Id"\n' -f
+answers 'the flag I, obsolete' ours "$ab"'#, c-format\n#~ msgid "%%d"\n#~ msgstr "%%Id"\n'
+answers 'the flag I, no-c-format' ours '#, no-c-format\nmsgid "%%d"\nmsgstr "%%Id"\n'
+answers 'the flag I in no valid format' ours "$c"'msgid "%%d"\nmsgstr "%%Id %%y"\n'
+answers 'a blank and an I, as flags' ours "$c"'msgid "100 %% In"\nmsgstr "100 %% In"\n' -c
+answers 'a blank and an I, without the flag' ours 'msgid "100 %% in"\nmsgstr "100 %% In"\n' -c
+answers 'a blank and an I behind two per cent signs' ours "$c"'msgid "%%%% in"\nmsgstr "%%%% In"\n' -c
+answers 'the flag I of no format' ours 'msgid "%%d"\nmsgstr "%%Id"\n'
 answers 'a macro, two lines of flags' "$other" "$c"'#, no-wrap\n'"$macro"
 answers 'a macro in another charset' ours "$c"'msgid "%%<PRId64>"\nmsgstr "\303\251 %%<PRId64>"\n'
 answers 'a macro, a header without fields' ours "$c$macro" -c -v

@@ -30,6 +30,7 @@ ENDED = ('"d\\n"', '"f\\012"', '"a"\n"d\\n"', '"h\\\\\\n"')
 BEGUN = ('"\\ne"', '"\\012g"')
 MACROS = ('"%<PRId64>"', '"%<PRIu32> %s"', '"%2$s %1$I<PRIu8>"', '"x%<PRIxMAX>%-5<PRIoPTR>y"', '"<PRId64>"', '"%<PRId65>"',
           '"%<PRI" "dLEAST16>"', '"%*<PRIiFAST32>"', '"%jd %<PRIdMAX>"', '"%%<PRId64>"')  # fmt: skip
+DIGITS = ('"%Id"', '"%1$I5d"', '"%-" "Id"', '"%\\111d"', '"100 % In"', '"%%I"', '"%d I"', '"%I"')
 FLAGS = ("fuzzy", "c-format", "no-c-format", "no-wrap", "python-format", "php-format", "foo", "fuzzy, no-wrap",
          "c-format no-wrap", "no-wrap\tfuzzy", "possible-c-format", "range: 0..4")  # fmt: skip
 COMMENTS = ("#", "# x", "#. x", "#: x.c:3", "#| msgid \"q\"", "#| msgctxt \"q\"", "#|", "#~", "#~ # x", "#| # x", "#~| msgid \"q\"",
@@ -48,7 +49,8 @@ def some_flags(rng: random.Random) -> list[str]:
 
 def entry(rng: random.Random, key: str) -> list[str]:
     """The lines of an entry, without its comments. Most have the newlines that they should have."""
-    kinds = rng.choice(((PLAIN,), (PLAIN,), (PLAIN, MACROS), (MACROS,), (ENDED,), (BEGUN,), (PLAIN, ENDED, BEGUN)))
+    kinds = rng.choice(((PLAIN,), (PLAIN,), (PLAIN, MACROS), (MACROS,), (PLAIN, DIGITS), (DIGITS,), (ENDED,), (BEGUN,),
+                        (PLAIN, ENDED, BEGUN)))  # fmt: skip
 
     def text() -> str:
         return rng.choice(rng.choice(kinds))

@@ -26,6 +26,7 @@ use Rattle.po_checks.specs.declared.options.Options.{Options}
 use Rattle.c_answers.specs.declared.opened.Opened.{Opened}
 use Rattle.c_answers.specs.Numbers.{no_fault, memory_fault, tables_fault, mo_no_character_fault, po_faults}
 use Rattle.c_answers.specs.Numbers.{no_character_fault, not_read_back_fault}
+use Rattle.dependent_files.specs.DigitsFlag.{SomeHasFlag}
 use Rattle.dependent_files.specs.TextFiles.{HasFileAny, HasNoFileAny}
 use Rattle.dependent_files.specs.declared.compiler.DependentFile.{DependentFile}
 use Rattle.dependent_files.specs.declared.fault.FileFault.{FileFault}
@@ -145,13 +146,20 @@ abbrev pub RefusesText : List ℕ → Options → Bool → TextFault → Type 0
 RefusesText text options true fault = RefusesStrict text options fault
 RefusesText text options false fault = RefusesAny text options fault
 
--- the text compiles to this map with these counts, and its file is that of the map
+-- some translation of the map is a C format with the flag `I`; if is_strict, the flag is a byte like others
+abbrev pub CountsFlag : Bool → List Entry → Type 0
+CountsFlag true m = ⊥
+CountsFlag false m = SomeHasFlag m
+
+-- the text compiles to this map with these counts, no translation has a flag `I` that counts, and its file is that of
+-- the map: one of revision 0.0
 pub record MeansMap (text : List ℕ) (options : Options) (is_strict : Bool) (m : List Entry) (stats : Stats)
     (own : Option (List ℕ)) : Type 0 where
   pub compiled : Compiled
   pub means : MeansText text options is_strict compiled
   pub map_is : compiled.catalogue ≡ m
   pub stats_are : compiled.stats ≡ stats
+  pub no_flag : ¬ CountsFlag is_strict m
   pub no_file : own ≡ None
 
 -- ---- a text with system-dependent messages
@@ -183,7 +191,15 @@ IsTold text options true fault c = IsRefused c (text_fault_number fault) (line_o
 IsTold text options false fault c = (¬ IsSystemDependent fault × IsRefused c (text_fault_number fault) (line_of fault))
     ⊎ (IsSystemDependent fault × IsOpenedFile text options c)
 
--- the map that a PO text compiles to, or what becomes of its first fault, or out of memory
+-- the text compiles, and some translation of its map has a flag `I` that counts
+pub record HasFlag (text : List ℕ) (options : Options) (is_strict : Bool) : Type 0 where
+  pub compiled : Compiled
+  pub means : MeansText text options is_strict compiled
+  pub flag : CountsFlag is_strict compiled.catalogue
+
+-- the map that a PO text compiles to; or, where a translation has the flag `I`, what the text is opened as with its
+-- flags and macros; or what becomes of its first fault, or out of memory
 abbrev pub IsOpenedPo : List ℕ → Options → Bool → Opened → Type 0
 IsOpenedPo text options is_strict c = IsOpenedAs (MeansMap text options is_strict) c
+    ⊎ (HasFlag text options is_strict × IsOpenedFile text options c)
     ⊎ (fault : TextFault) × RefusesText text options is_strict fault × IsTold text options is_strict fault c

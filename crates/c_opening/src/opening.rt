@@ -7,6 +7,7 @@ ghost use Rattle.c_opening.specs.Opening.{IsOpenedMo, IsOpenedPo, IsOpenedMap, I
 ghost use Rattle.c_opening.specs.Opening.{MeansText, RefusesText, line_of, options_of, text_fault_number};
 ghost use Rattle.c_opening.specs.Opening.{MeansMo, RefusesMo, dependent_number, file_fault_number, mo_fault_number};
 ghost use Rattle.c_opening.specs.Opening.{IsOpenedFile, IsSystemDependent, IsTold, file_line, text_file_number};
+ghost use Rattle.c_opening.specs.Opening.{CountsFlag};
 ghost use Rattle.dependent_files.specs.TextFiles.{HasFileAny, HasNoFileAny};
 
 use any_charset::{TextFault, compile_recoded, is_for_charset};
@@ -17,7 +18,7 @@ use c_answers::numbers::{
     NO_FAULT, NOT_READ_BACK, PO_FAULTS, PO_MEMORY,
 };
 use catalogue::{Catalogue, Compiled, LoadFault, LoadKind, Options, Stats, compile_owned};
-use dependent_files::{DependentFile, FileFault, compile_file};
+use dependent_files::{DependentFile, FileFault, compile_file, has_digits_flag};
 use live_loads::{mo_number, po_number};
 use mo_charsets::{RecodedFault, read_any_charset};
 use mo_file::{MoFault, read_mo};
@@ -229,7 +230,7 @@ fn refused_file(fault: FileFault) -> Opened
     }
 }
 
-/// The catalogue of a PO text whose formats may name macros, and its file, or why it has none.
+/// The catalogue of a PO text whose formats may name macros or have the flag `I`, and its file, or why it has none.
 fn open_macros(alloc: Global, bytes: &[u8], options: Options, without_index: bool) -> Opened
     ensures { IsOpenedFile bytes.now options result }
 {
@@ -273,6 +274,41 @@ fn open_refused(
     refused_text(fault)
 }
 
+/// Whether some translation of a catalogue is a C format with the flag `I`, which isn't looked for if `is_strict`.
+fn counts_flag(alloc: Global, catalogue: &Catalogue, is_strict: bool) -> Result<bool, AllocError>
+    ensures { IfOk result (λ counts. IsTrue counts ↔ CountsFlag is_strict catalogue.now) }
+{
+    if is_strict {
+        return Ok(false);
+    }
+    has_digits_flag(alloc, catalogue)
+}
+
+/// What is opened of a text that compiles to this: its map, or if a flag `I` counts, the text with its flags.
+fn open_compiled(
+    alloc: Global,
+    bytes: &[u8],
+    options: Options,
+    is_strict: bool,
+    without_index: bool,
+    compiled: Compiled,
+) -> Opened
+    requires { MeansText bytes.now options is_strict compiled }
+    ensures { IsOpenedPo bytes.now options is_strict result }
+{
+    match counts_flag(alloc, &compiled.catalogue, is_strict) {
+        Ok(false) => kept(
+            alloc,
+            compiled.catalogue,
+            compiled.stats,
+            None,
+            without_index,
+        ),
+        Ok(true) => open_macros(alloc, bytes, options, without_index),
+        Err(_) => refused(MEMORY, 0),
+    }
+}
+
 /// The options that two numbers give: each is on if its number isn't 0.
 pub fn options_of(checked: u32, use_fuzzy: u32) -> Options
     ensures { result ≡ options_of checked use_fuzzy }
@@ -285,7 +321,8 @@ pub fn options_of(checked: u32, use_fuzzy: u32) -> Options
 
 /// The catalogue of a PO text, or the first reason why it is refused. An option is on if its number isn't 0; with
 /// `without_index` the catalogue gets no index, and answers as with one. Unless `strict` is on, a text whose formats
-/// name macros is opened, too: its messages are as x86-64 Linux has them, and its MO file is of revision 0.1 or 1.1.
+/// name macros is opened, too: its messages are as x86-64 Linux has them, and its MO file is of revision 0.1 or 1.1. So
+/// is the file of a text with a translation that is flagged `c-format` and has the flag `I` in a directive.
 pub fn open_po(
     alloc: Global,
     bytes: &[u8],
@@ -297,14 +334,10 @@ pub fn open_po(
     ensures { IsOpenedPo bytes.now (options_of checked use_fuzzy) (nat_lt 0 strict) result }
 {
     let options = options_of(checked, use_fuzzy);
-    match compile_text(alloc, bytes, options, strict > 0) {
-        Ok(compiled) => kept(
-            alloc,
-            compiled.catalogue,
-            compiled.stats,
-            None,
-            without_index > 0,
-        ),
-        Err(fault) => open_refused(alloc, bytes, options, strict > 0, without_index > 0, fault),
+    let is_strict = strict > 0;
+    let without_index = without_index > 0;
+    match compile_text(alloc, bytes, options, is_strict) {
+        Ok(compiled) => open_compiled(alloc, bytes, options, is_strict, without_index, compiled),
+        Err(fault) => open_refused(alloc, bytes, options, is_strict, without_index, fault),
     }
 }
