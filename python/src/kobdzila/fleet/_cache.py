@@ -49,7 +49,7 @@ class Cached(NamedTuple):
     loads: Sequence[Played]
 
 
-class Entry(NamedTuple):
+class Piece(NamedTuple):
     """Where a file is in the cache."""
 
     offset: int
@@ -66,7 +66,7 @@ class Cache:
     def __init__(self, folder: str | os.PathLike[str], name: str) -> None:
         self.folder = Path(folder)
         self.path = self.folder / f"{quote(name, safe='')}.cache"
-        self._entries: dict[Pair, Entry] = {}
+        self._pieces: dict[Pair, Piece] = {}
         self._file = self._lock = -1
         self._pending: dict[Pair, Played] = {}
         self._is_new = False
@@ -82,14 +82,14 @@ class Cache:
         except OSError as why:
             raise CacheRefused(f"{self.path}: {why.strerror}") from why
         try:
-            cached, entries = self._checked(handle)
+            cached, pieces = self._checked(handle)
         except (OSError, ValueError, KeyError, TypeError) as why:
             os.close(handle)
             raise CacheRefused(f"{self.path}: {why}") from why
-        self._take(handle, entries)
+        self._take(handle, pieces)
         return cached
 
-    def _checked(self, handle: int) -> tuple[Cached, dict[Pair, Entry]]:
+    def _checked(self, handle: int) -> tuple[Cached, dict[Pair, Piece]]:
         found = os.fstat(handle)
         if found.st_uid not in (os.getuid(), 0) or stat.S_IMODE(found.st_mode) & 0o022:
             raise ValueError("another user may write to it")
@@ -98,21 +98,21 @@ class Cache:
             if form != FORM or hashlib.sha256(form + text).hexdigest().encode() + b"\n" != total:
                 raise ValueError("it isn't whole: its sum is another one")
             head, offset = json.loads(text), file.tell()
-            loads, entries = [], {}
+            loads, pieces = [], {}
             for domain, locale, digits, length in head["entries"]:
                 data, wanted = file.read(length), bytes.fromhex(digits)
                 if hashlib.sha256(data).digest() != wanted:
                     raise ValueError(f"it isn't whole: {domain}/{locale} has another sum")
                 loads.append(Played(domain, locale, data, wanted))
-                entries[domain, locale] = Entry(offset, length, wanted)
+                pieces[domain, locale] = Piece(offset, length, wanted)
                 offset += length
         position = Position(head["epoch"], head["version"], bytes.fromhex(head["history"]))
-        return Cached(position, head["past"], head["written"], loads), entries
+        return Cached(position, head["past"], head["written"], loads), pieces
 
     def keep(self, loads: Iterable[Played], all_of_them: bool = False) -> None:
         """Remember what is new on the machine, for the next write."""
         if all_of_them:
-            self._entries, self.is_whole = {}, True
+            self._pieces, self.is_whole = {}, True
         if not self.is_ours():
             self.is_whole = False
             return
@@ -146,44 +146,44 @@ class Cache:
         new = self.path.with_suffix(".new")
         handle = os.open(new, os.O_RDWR | os.O_CREAT | os.O_TRUNC | os.O_CLOEXEC, 0o600)
         try:
-            entries = self._fill(handle, position, past, sorted(self._entries.keys() | self._pending.keys()))
+            pieces = self._fill(handle, position, past, sorted(self._pieces.keys() | self._pending.keys()))
             os.fsync(handle)
             os.replace(new, self.path)
         except BaseException:
             os.close(handle)
             raise
-        self._take(handle, entries)
+        self._take(handle, pieces)
         self._pending.clear()
         self._is_new = False
         sync(self.folder)
         done = time.monotonic()
         self._due = done + min(LONGEST, SHARE * (done - begun))
 
-    def _fill(self, handle: int, position: Position, past: Sequence[str], pairs: Sequence[Pair]) -> dict[Pair, Entry]:
+    def _fill(self, handle: int, position: Position, past: Sequence[str], pairs: Sequence[Pair]) -> dict[Pair, Piece]:
         """Write a complete cache, and return where its files are."""
         parts = []
         for pair in pairs:
             new = self._pending.get(pair)
-            length, total = (len(new.mo), new.sum) if new else self._entries[pair][1:]
+            length, total = (len(new.mo), new.sum) if new else self._pieces[pair][1:]
             parts.append((*pair, total.hex(), length))
         text = json.dumps({"epoch": position.epoch, "version": position.version, "history": position.history.hex(),
                            "past": list(past), "written": time.time(), "entries": parts}).encode() + b"\n"
         head = FORM + text + hashlib.sha256(FORM + text).hexdigest().encode() + b"\n"
         written(handle, head)
-        entries, offset = {}, len(head)
+        pieces, offset = {}, len(head)
         for pair, (*_, digits, length) in zip(pairs, parts):
             new = self._pending.get(pair)
             if new:
                 written(handle, new.mo)
             else:
-                copied(self._file, self._entries[pair], handle)
-            entries[pair] = Entry(offset, length, bytes.fromhex(digits))
+                copied(self._file, self._pieces[pair], handle)
+            pieces[pair] = Piece(offset, length, bytes.fromhex(digits))
             offset += length
-        return entries
+        return pieces
 
-    def _take(self, handle: int, entries: dict[Pair, Entry]) -> None:
+    def _take(self, handle: int, pieces: dict[Pair, Piece]) -> None:
         self._release("_file")
-        self._file, self._entries = handle, entries
+        self._file, self._pieces = handle, pieces
 
     def _release(self, name: str) -> None:
         handle: int = getattr(self, name)
@@ -200,7 +200,7 @@ class Cache:
         """This process is a child of the one that writes, which remains the writer."""
         self.close()
         self._pending.clear()
-        self._entries, self._is_new, self.is_whole = {}, False, False
+        self._pieces, self._is_new, self.is_whole = {}, False, False
 
 
 def written(handle: int, data: bytes) -> None:
@@ -209,9 +209,9 @@ def written(handle: int, data: bytes) -> None:
         view = view[os.write(handle, view):]
 
 
-def copied(source: int, entry: Entry, to: int) -> None:
+def copied(source: int, piece: Piece, to: int) -> None:
     """Append a file of the old cache to the new one."""
-    offset, left = entry.offset, entry.length
+    offset, left = piece.offset, piece.length
     while left:
         data = os.pread(source, min(left, PIECE), offset)
         if not data:
