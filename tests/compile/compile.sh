@@ -126,7 +126,7 @@ holds 'compile, -o without a domain: nothing is written' is_absent out3
 po one/locale/fr/LC_MESSAGES/x.po fr a && po two/locale/fr/LC_MESSAGES/x.po fr b
 says 'compile, two PO files for one MO file' 2 'kob-compile: one/locale/fr/LC_MESSAGES/x.po and two/locale/fr/LC_MESSAGES/x.po would both be out3/fr/LC_MESSAGES/x.mo: name the folder of one of them' -o out3 one two
 holds 'compile, two PO files for one MO file: nothing is written' is_absent out3
-(cd project && timeout 60 "$tested" --watch -o ../out3 po > ../out 2> ../err)
+(cd project && timeout $((60 * slower)) "$tested" --watch -o ../out3 po > ../out 2> ../err)
 holds 'compile, --watch, -o without a domain: it ends' [ $? = 2 ]
 (cd one && "$tested" > ../out 2> ../err)
 holds 'compile, the current folder' is_as_msgfmt one/locale/fr/LC_MESSAGES/x.mo one/locale/fr/LC_MESSAGES/x.po

@@ -21,7 +21,7 @@ COMPILER, MSGFMT, EDITS = sys.argv[1], sys.argv[2], int(sys.argv[3])
 ROOM = Path("watched")
 LANGUAGES = ("de", "fr", "nl", "pl")
 HEADER = 'msgid ""\nmsgstr "Content-Type: text/plain; charset=UTF-8\\n"\n\n'
-PATIENCE = 20.0
+PATIENCE = 20.0 * int(os.environ.get("SLOWER", "1"))  # seconds
 
 
 def text_of(number: int, is_refused: bool) -> bytes:

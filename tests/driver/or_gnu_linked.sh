@@ -154,7 +154,7 @@ waiting() {
   : > err
   "$driver" --statistics -o fifo ours.po > out 2> err &
   it=$!
-  for _ in $(seq 200); do
+  for _ in $(seq $((200 * slower))); do
     grep -q '^State:.S' "/proc/$it/status" && readlink "/proc/$it/fd/2" | grep -q memfd && break
     sleep 0.02
   done
@@ -171,7 +171,7 @@ for signal in TERM:143 HUP:129 KILL:137; do
   if [ $status = "${signal#*:}" ] && [ ! -s err ]; then ok "linked driver, ${signal%:*} ends it"
   else failed "linked driver, ${signal%:*} ends it" "status $status, '$(cat err)'"; fi
 done
-(trap '' HUP && waiting && kill -HUP $it && timeout 10 cat fifo > x.mo; wait $it)
+(trap '' HUP && waiting && kill -HUP $it && timeout $((10 * slower)) cat fifo > x.mo; wait $it)
 status=$?
 judge 'linked driver, an ignored signal' 0 '1 translated message.' && cmp -s x.mo ours.mo &&
   ok 'linked driver, an ignored signal'

@@ -27,7 +27,7 @@
 #include <unistd.h>
 
 #define ASKING 16
-#define PATIENCE 100 /* seconds */
+#define PATIENCE (100 * SLOWER) /* seconds */
 
 /* GCC's sanitizers don't hold the locks of their allocator in a fork, so a child that takes memory may hang. */
 #if defined(__SANITIZE_ADDRESS__) || defined(__SANITIZE_THREAD__)

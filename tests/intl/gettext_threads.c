@@ -26,7 +26,7 @@
 #include <unistd.h>
 
 #define ASKING 8
-#define PATIENCE 20 /* seconds */
+#define PATIENCE (20 * SLOWER) /* seconds */
 
 /* GCC's sanitizers don't hold the locks of their allocator in a fork, so a child that takes memory may hang. */
 #if defined(__SANITIZE_ADDRESS__) || defined(__SANITIZE_THREAD__)
@@ -200,7 +200,7 @@ int main(int argc, char **argv) {
     folders[0] = argv[1];
     folders[1] = argv[2];
     times = atoi(argv[4]);
-    alarm(seconds + 240);
+    alarm(seconds + 240 * SLOWER);
     bindtextdomain("app", folders[0]);
     run_threads(seconds);
     if (!atomic_load(&wrong))

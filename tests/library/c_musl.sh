@@ -39,8 +39,8 @@ fi
 made() {
   local program=$1
   shift
-  musl-gcc -std=c11 -O2 -g -Wall -Wextra -Werror -pthread -Iinclude -o "$room/$program" "tests/library/$program.c" "$@" \
-    "$tree/build/lib/libkobdzila.a" > "$room/cc" 2>&1 && return
+  musl-gcc -std=c11 -O2 -g -Wall -Wextra -Werror -pthread "-DSLOWER=$slower" -Iinclude -o "$room/$program" \
+    "tests/library/$program.c" "$@" "$tree/build/lib/libkobdzila.a" > "$room/cc" 2>&1 && return
   failed "$name: $program" "$(head -c 300 "$room/cc")"
   return 1
 }

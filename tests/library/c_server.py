@@ -7,6 +7,7 @@ SERVER is the program, and FOLDER an empty folder for its files. The server has 
 to wait for one to leave; these are 8, which ask all the time.
 """
 import atexit
+import os
 import signal
 import socket
 import subprocess
@@ -21,7 +22,7 @@ import intl_answers  # noqa: E402
 
 CLIENTS = 8
 ROUNDS = 30
-PATIENCE = 20.0  # seconds
+PATIENCE = 20.0 * int(os.environ.get("SLOWER", "1"))  # seconds
 
 
 class Server:

@@ -75,7 +75,7 @@ if compiles "$name, 1" one "$room/example1.c" "$library/libkobdzila.a" &&
   compiles "$name, 2" two "$room/example2.c" "$library/libkobdzila.a"; then
   mkdir -p "$room/examples"
   cp examples/fr.po examples/pl.po "$room/examples"
-  said=$(cd "$room" && ./one && (sleep 2; echo; sleep 2) | timeout 20 ./two 2>&1 | grep '^[24]' | sort -u)
+  said=$(cd "$room" && ./one && (sleep 2; echo; sleep 2) | timeout $((20 * slower)) ./two 2>&1 | grep '^[24]' | sort -u)
   if [ "$said" = $'tomates\n2: tomate, pomidor\n4: tomate, pomidor' ]; then
     ok "$name"
   else

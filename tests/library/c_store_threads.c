@@ -414,7 +414,7 @@ static void several(unsigned long publishes) {
 
 /* ---- one thread publishes, and is stopped where it is */
 
-#define PATIENCE 30 /* seconds: how long the readers may take to enter */
+#define PATIENCE (30 * SLOWER) /* seconds: how long the readers may take to enter */
 
 static pthread_t publisher;
 static unsigned long wanted_stops;

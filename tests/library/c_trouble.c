@@ -487,7 +487,7 @@ static void null(void) {
 int main(int argc, char **argv) {
     if (argc != 3)
         return 2;
-    alarm(200);
+    alarm(200 * SLOWER);
     folder = argv[2];
     snprintf(name_of_mo, sizeof name_of_mo, "%s/fr/LC_MESSAGES/app.mo", folder);
     snprintf(name_of_file, sizeof name_of_file, "%s/file", folder);

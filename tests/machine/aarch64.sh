@@ -114,7 +114,7 @@ fi
 
 # wrote NAME MO WANTED WORD..: the words end well, say nothing, and the file MO has the bytes of WANTED
 wrote() {
-  if said=$(timeout 60 "${emulator[@]}" "${@:4}" 2>&1) && [ -z "$said" ] && cmp -s "$2" "$3"; then ok "aarch64, $1"
+  if said=$(timeout 300 "${emulator[@]}" "${@:4}" 2>&1) && [ -z "$said" ] && cmp -s "$2" "$3"; then ok "aarch64, $1"
   else failed "aarch64, $1" "$said"; fi
 }
 if tests/lib/needs tools/gnu-msgfmt gettext; then

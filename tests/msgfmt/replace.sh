@@ -228,7 +228,7 @@ stays() {
   local before
   before=$(state)
   for _ in 1 2; do
-    under=(timeout 5 "${user_is[@]}")
+    under=(timeout $((5 * slower)) "${user_is[@]}")
     to_file -o out.mo "$room/in.po"
     whole "$1" out.mo || return
     [ "$(state)" = "$before" ] && continue

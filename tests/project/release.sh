@@ -384,7 +384,7 @@ END
     "tools/dist: git doesn't know c/driver/stray.c: a release is made of a commit" "$(cd "$room/made" && RT=$room/rt tools/dist 2>&1)"
   rm "$room/made/c/driver/stray.c"
   if said=$(cd "$room/made" && export RT=$room/rt && tools/dist 2>&1 &&
-    timeout 300 tools/verify_release "$build/dist/$name.tar.gz" 2>&1) &&
+    timeout $((300 * slower)) tools/verify_release "$build/dist/$name.tar.gz" 2>&1) &&
     [ "$(tail -n 1 <<< "$said")" = "$name.tar.gz: every byte is the same" ] &&
     { [ -n "$other" ] || grep -qx "$html.tar.gz: every byte is the same" <<< "$said"; }; then
     ok 'make verify'

@@ -10,6 +10,7 @@ A script is fed whole, line by line, byte by byte, and round by round: there the
 line is sent. Behind each piece it waits until the program has taken it.
 """
 import fcntl
+import os
 import subprocess
 import sys
 import termios
@@ -17,7 +18,7 @@ import threading
 import time
 from pathlib import Path
 
-DEADLINE = 20.0  # seconds for an answer
+DEADLINE = 20.0 * int(os.environ.get("SLOWER", "1"))  # seconds for an answer
 MOST_BYTES = 20_000  # of a script that is fed byte by byte
 MOST_LATE = 2  # rows without an answer in time, before the others are left out
 MOST_GROWTH = 512  # kB from a tenth of many rounds to their end

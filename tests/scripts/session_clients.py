@@ -17,6 +17,7 @@ from application import Application, Catalogues, languages_of, serve  # noqa: E4
 from session import LoadRefused, MOST_LINES, Session, SessionEnded  # noqa: E402
 
 PROGRAM = os.path.abspath(sys.argv[1])
+PATIENCE = 20 * int(os.environ.get("SLOWER", "1"))  # seconds
 THREADS, REPLACEMENTS = 8, 100
 
 POLISH = rb"""msgid ""
@@ -228,7 +229,7 @@ class Asker(threading.Thread):
             self.wrong.append(repr(fault))
 
     def ask(self, languages, number, page, last):
-        connection = http.client.HTTPConnection("localhost", self.port, timeout=20)
+        connection = http.client.HTTPConnection("localhost", self.port, timeout=PATIENCE)
         connection.request("GET", f"/{number}", headers={"Accept-Language": languages})
         answer = connection.getresponse()
         got, version = answer.read().decode(), int(answer.headers["Catalogue-Version"])
