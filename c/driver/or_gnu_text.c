@@ -80,6 +80,11 @@ static void look_at_header(struct scan *scan, const struct entry *entry, struct 
 
 /* ---- other entries */
 
+/* Whether the texts are formats of Objective-C, which GNU msgfmt splits at macros and flags `I` as it does those of C. */
+static bool is_objective_c(const struct flags *flags) {
+    return flags->other.at && is_name(flags->other, "objc-format");
+}
+
 /* Take in an entry that is kept. */
 static void look_at_kept(struct scan *scan, const struct entry *entry) {
     const struct flags *flags = &entry->flags;
@@ -87,15 +92,16 @@ static void look_at_kept(struct scan *scan, const struct entry *entry) {
     bool checks = scan->request->checks_format;
     if (entry->newlines_differ && next_byte(&id) >= 0)
         needs_gnu_for(scan, "newlines differ");
-    if (checks && flags->other.at)
+    bool may_depend = scan->has_macros && find(entry->whole, "<PRI", 0);
+    struct part forms = {entry->form.at, entry->whole.end};
+    bool is_split = is_objective_c(flags) && (may_depend || may_have_digits_flag(forms));
+    if ((checks || is_split) && flags->other.at)
         needs_gnu(scan, "", flags->other);
     if (checks && flags->checked && (flags->has_range || !has_library()))
         needs_gnu_for(scan, flags->checked);
     if (checks && !scan->needs.format)
         scan->needs.format = flags->checked;
-    bool may_depend = scan->has_macros && find(entry->whole, "<PRI", 0);
     bool has_macro = flags->c_format && may_depend;
-    struct part forms = {entry->form.at, entry->whole.end};
     scan->needs.plain_macros += may_depend && !has_macro && (names_macro(entry->id) || names_macro(forms));
     bool has_flag = flags->c_format && has_library() && may_have_digits_flag(forms);
     scan->needs.is_dependent |= has_macro || has_flag;

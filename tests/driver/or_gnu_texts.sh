@@ -110,6 +110,9 @@ answers 'the flag I in no valid format' ours "$c"'msgid "%%d"\nmsgstr "%%Id %%y"
 answers 'a blank and an I, as flags' ours "$c"'msgid "100 %% In"\nmsgstr "100 %% In"\n' -c
 answers 'a blank and an I, without the flag' ours 'msgid "100 %% in"\nmsgstr "100 %% In"\n' -c
 answers 'a blank and an I behind two per cent signs' ours "$c"'msgid "%%%% in"\nmsgstr "%%%% In"\n' -c
+answers 'the flag I, Objective-C' 'GNU\t0\tobjc-format' '#, objc-format\nmsgid "%%d"\nmsgstr "%%Id"\n'
+answers 'a macro, Objective-C' 'GNU\t0\tobjc-format' '#, objc-format\nmsgid "%%<PRId64>"\nmsgstr "%%<PRId64> x"\n'
+answers 'no macro, Objective-C' ours '#, objc-format\nmsgid "%%d"\nmsgstr "%%d x"\n'
 answers 'the flag I of no format' ours 'msgid "%%d"\nmsgstr "%%Id"\n'
 answers 'a macro, two lines of flags' "$other" "$c"'#, no-wrap\n'"$macro"
 answers 'a macro in another charset' ours "$c"'msgid "%%<PRId64>"\nmsgstr "\303\251 %%<PRId64>"\n'
