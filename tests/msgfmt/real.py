@@ -17,6 +17,7 @@ from __future__ import annotations
 import argparse
 import os
 import re
+import struct
 import subprocess
 import sys
 import tempfile
@@ -30,7 +31,8 @@ DRIVER = os.environ.get("DRIVER", str(TOP / "bin/msgfmt-or-gnu"))
 # Plain makefiles, CMake and Meson; rules for one file; Django; po/Makefile.in.in; vim. The last is of no build that was seen.
 BUILDS = ("", "-c", "--check-format", "-c --statistics --verbose", "-v", "-f")
 DATE = re.compile(rb'^"POT-Creation-Date:(?:[^"\\]|\\[^n])*\\n"\r*\n', re.M)
-REVISION, ENTRIES = slice(4, 8), slice(8, 12)  # the places of two words in an MO file
+CHARSET = re.compile(rb"charset=(?:utf-?8|(?:us-)?ascii)(?=\\n)", re.I)
+REVISION, ENTRIES, DEPENDENT = slice(4, 8), slice(8, 12), slice(36, 40)  # the places of words in an MO file
 NOBODY = "/bin/false"  # in the place of GNU msgfmt, so that the log has the reason
 SAME, DIFFERENT = "the same bytes", "DIFFERENT"
 
@@ -73,8 +75,23 @@ def in_utf8(gnu: str, text: bytes) -> bytes | None:
     return done.stdout if done.returncode == 0 else None
 
 
+def static_texts(made: bytes) -> dict[bytes, bytes]:
+    """The texts of an MO file that don't depend on the system, by their keys."""
+    count, keys, texts = struct.unpack_from("<III", made, 8)
+    tables = [struct.iter_unpack("<II", made[at:at + 8 * count]) for at in (keys, texts)]
+    return dict(zip(*([made[at:at + size] for size, at in table] for table in tables)))
+
+
+def has_more_texts(theirs: bytes, ours: bytes) -> bool:
+    """Whether an MO file with as many system-dependent strings has all static texts of another, and more of them."""
+    if any(made[REVISION] != b"\1\0\0\0" for made in (theirs, ours)) or theirs[DEPENDENT] != ours[DEPENDENT]:
+        return False
+    return static_texts(theirs).items() > static_texts(ours).items()
+
+
 def files_compared(gnu: str, options: str, text: bytes, ours: Answer, theirs: Answer) -> str:
-    """How two MO files compare. GNU's lacks the field POT-Creation-Date, and before 0.22 keeps the charset."""
+    """How two MO files compare. GNU's lacks the field POT-Creation-Date, and before 0.22 keeps the charset. Since 0.23
+    it says UTF-8 for other spellings and for ASCII, and has the texts that macros expand to on some systems."""
     if ours.made == theirs.made:
         return SAME
     if ours.made[ENTRIES] == bytes(4) and not theirs.made:
@@ -85,6 +102,11 @@ def files_compared(gnu: str, options: str, text: bytes, ours: Answer, theirs: An
     made = run(DRIVER, options, "-", undated).made
     if made == theirs.made:
         return "the same but for POT-Creation-Date"
+    named = run(DRIVER, options, "-", CHARSET.sub(b"charset=UTF-8", undated, count=1)).made
+    if named == theirs.made:
+        return "the same but for the charset's name"
+    if has_more_texts(theirs.made, named):
+        return "GNU's also has the expansions of macros"
     converted = in_utf8(gnu, undated)
     if converted and made == run(gnu, options, "-", converted).made:
         return "the same in UTF-8"
