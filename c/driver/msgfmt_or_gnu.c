@@ -521,6 +521,15 @@ _Noreturn static void compile_text(struct run *run, const char *why) {
     end_by_ours(run, &answer, reason, refusal || answer.ending.status);
 }
 
+/* Keep the text that was converted or changed where Kobdzila's msgfmt reads it. */
+static void keep_changed(struct run *run) {
+    if (run->recoded >= 0)
+        close(run->recoded);
+    run->recoded = unnamed_file();
+    if (run->recoded < 0 || !write_all(run->recoded, run->utf8.bytes, run->utf8.len))
+        stop("cannot keep the converted text: ", strerror(errno));
+}
+
 /* Convert the text if its charset asks for it. A text with a byte that has no character is left to GNU msgfmt. */
 static void recode(struct run *run, char *why) {
     struct text *utf8 = &run->utf8;
@@ -530,11 +539,30 @@ static void recode(struct run *run, char *why) {
         stop_for_memory();
     if (done == NO_CHARACTER)
         snprintf(why, WHY_SIZE, "a byte that is no character");
-    if (done != RECODED)
-        return;
-    run->recoded = unnamed_file();
-    if (run->recoded < 0 || !write_all(run->recoded, utf8->bytes, utf8->len))
-        stop("cannot keep the converted text: ", strerror(errno));
+    if (done == RECODED)
+        keep_changed(run);
+}
+
+/* Scan the text. If GNU msgfmt reads the flags of an entry otherwise, they are changed for Kobdzila's msgfmt, and the
+ * text is scanned once more. */
+static struct needs scan_text(struct run *run) {
+    struct part text = utf8_of(run);
+    size_t len = (size_t)(text.end - text.at);
+    struct needs needs = needs_of(run->request, text.at, len);
+    if (!needs.flags_differ)
+        return needs;
+    char *copy = malloc(len + 1);
+    if (!copy)
+        stop_for_memory();
+    memcpy(copy, text.at, len);
+    if (!settle_flags(text, copy)) {
+        free(copy);
+        return needs;
+    }
+    free(run->utf8.bytes);
+    run->utf8 = (struct text){.bytes = copy, .len = len, .kept = -1};
+    keep_changed(run);
+    return needs_of(run->request, copy, len);
 }
 
 /* --- formats that libkobdzila checks ---------------------------------------------------------------------------- */
@@ -597,8 +625,7 @@ _Noreturn static void drive(struct run *run) {
     }
     if (!why[0])
         recode(run, why);
-    struct part text = utf8_of(run);
-    struct needs needs = needs_of(request, text.at, (size_t)(text.end - text.at));
+    struct needs needs = scan_text(run);
     if (!why[0])
         memcpy(why, needs.why, sizeof why);
     if (needs.line)

@@ -68,6 +68,7 @@ struct needs {
     bool is_dependent;       /* an entry may have system-dependent strings, which libkobdzila compiles */
     size_t plain_macros;     /* how many entries have a macro without being flagged c-format */
     const char *format;      /* the flag of formats that are to be checked by libkobdzila, or NULL */
+    bool flags_differ;       /* GNU msgfmt reads the flags of an entry otherwise, and that matters */
 };
 
 /* Scan a PO text, in one pass. */

@@ -76,6 +76,30 @@ static void look_at_comment(struct reader *reader, const struct token *token) {
     *flags = now;
 }
 
+static bool has_flags(const struct token *token) {
+    struct part part = token->part;
+    return token->kind == COMMENT && !token->obsolete && !token->previous && (begins(part, ",") || begins(part, "!"));
+}
+
+bool settle_flags(struct part text, char *copy) {
+    struct lexer lexer = {text.at, text.end, 1, false, false, false};
+    char *last = NULL;
+    bool is_changed = false;
+    for (struct token token; (token = next_token(&lexer)).kind != END;) {
+        if (token.kind != COMMENT)
+            last = NULL;
+        if (!has_flags(&token))
+            continue;
+        char *mark = copy + (token.part.at - text.at);
+        is_changed |= last || *mark == '!';
+        if (last)
+            *last = ' ';
+        *mark = ',';
+        last = mark;
+    }
+    return is_changed;
+}
+
 /* ---- the tokens of an entry */
 
 static void advance(struct reader *reader) {

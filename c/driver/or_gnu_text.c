@@ -25,6 +25,11 @@ static void needs_gnu(struct scan *scan, const char *before, struct part what) {
 
 static void needs_gnu_for(struct scan *scan, const char *why) { needs_gnu(scan, why, (struct part){why, why}); }
 
+static void needs_gnu_for_flags(struct scan *scan) {
+    scan->needs.flags_differ = true;
+    needs_gnu_for(scan, "flags read otherwise by GNU");
+}
+
 /* ---- the header */
 
 static bool is_name(struct part part, const char *name) {
@@ -110,7 +115,7 @@ static void look_at_kept(struct scan *scan, const struct entry *entry) {
         needs_gnu_for(scan, "system-dependent format");
     else if (((checks || may_depend) && flags->c_format != flags->our_c_format) ||
              (checks && (flags->checked != flags->our_checked || flags->is_checked_again)))
-        needs_gnu_for(scan, "flags read otherwise by GNU");
+        needs_gnu_for_flags(scan);
 }
 
 static void look_at_live(struct scan *scan, const struct entry *entry, struct part text) {
@@ -119,7 +124,7 @@ static void look_at_live(struct scan *scan, const struct entry *entry, struct pa
     if (!has_id)
         look_at_header(scan, entry, text);
     if (flags->fuzzy != flags->our_fuzzy && has_id)
-        needs_gnu_for(scan, "flags read otherwise by GNU");
+        needs_gnu_for_flags(scan);
     if (entry->plural.at && scan->request->checks_compatibility)
         needs_gnu_for(scan, "-C and a plural message");
     if (entry->is_translated && (!flags->fuzzy || !has_id || scan->request->keeps_fuzzy))

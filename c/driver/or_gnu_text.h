@@ -103,6 +103,10 @@ struct reader read_text_from(struct part text);
 /* Read the next entry, or a part of a text that isn't one. False at the end of the text. */
 bool read_entry(struct reader *reader, struct entry *entry);
 
+/* Change the lines of flags in a copy of a text so that Kobdzila's msgfmt reads them as GNU msgfmt does: of several before
+ * an entry the last one counts, and `#!` has flags as well. False if there is nothing to change. */
+bool settle_flags(struct part text, char *copy);
+
 /* Return the flag of a format that libkobdzila checks, if the flag is that, perhaps behind `possible-`; NULL otherwise
  * (or_gnu_faults.c). */
 const char *checked_format(struct part flag);

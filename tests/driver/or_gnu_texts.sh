@@ -63,9 +63,14 @@ answers 'a flag, untranslated' ours "$ab"'#, perl-format\nmsgid "%%d"\nmsgstr ""
 answers 'a flag, obsolete' ours "$ab"'#, perl-format\n#~ msgid "%%d"\n#~ msgstr "%%s"\n' -c
 answers 'a flag of the obsolete entry before' ours '#, perl-format\n#~ msgid "x"\n#~ msgstr "y"\n'"$formats" -c
 answers 'a flag after a msgstr' "$perl" 'msgid "a"\nmsgstr "b" #, perl-format\n'"$formats" -c
-answers 'two lines of flags' "$other" "$ab"'#, fuzzy\n#, no-wrap\nmsgid "c"\nmsgstr "d"\n' --statistics
+answers 'two lines of flags' ours "$ab"'#, fuzzy\n#, no-wrap\nmsgid "c"\nmsgstr "d"\n' --statistics
 answers 'two lines of flags, of no consequence' ours "$ab"'#, no-wrap\n#, fuzzy\nmsgid "c"\nmsgstr "d"\n'
-answers 'flags as in Emacs 19' "$other" "$ab"'#! fuzzy\nmsgid "c"\nmsgstr "d"\n' --statistics
+answers 'three lines of flags, and comments' ours \
+  "$ab"'#, fuzzy\n#! no-wrap\n# #, fuzzy\n#, c-format\n#. c\nmsgid "c"\nmsgstr "d"\n' --statistics
+answers 'two lines of flags, formats' "$perl" '#, no-perl-format\n#, perl-format\n'"$formats" -c
+answers 'two lines of flags, formats' ours '#, perl-format\n#, no-wrap\n'"$formats" -c
+answers 'flags of two entries' ours '#, fuzzy\n'"$ab"'#, no-wrap\nmsgid "c"\nmsgstr "d"\n' --statistics
+answers 'flags as in Emacs 19' ours "$ab"'#! fuzzy\nmsgid "c"\nmsgstr "d"\n' --statistics
 answers 'flags behind #~' "$other" "$ab"'#~ #, fuzzy\nmsgid "c"\nmsgstr "d"\n' --statistics
 answers 'flags before an empty #~' "$other" "$ab"'#, fuzzy\n#~\nmsgid "c"\nmsgstr "d"\n' --statistics
 answers 'c-format and then not' "$other" '#, c-format, no-c-format\n'"$formats" -c
@@ -98,7 +103,7 @@ answers 'the flag I in the next string' ours "$c"'msgid "%%d"\nmsgstr "%%-"\n"I5
 answers 'the flag I, as an escape' ours "$c"'msgid "%%d"\nmsgstr "%%\\111d"\n'
 answers 'the flag I in both texts' ours "$c"'msgid "%%Id"\nmsgstr "%%Id"\n' -c
 answers 'the flag I in the msgid' ours "$c"'msgid "%%Id"\nmsgstr "%%d"\n'
-answers 'the flag I in a plural' ours "$c"'msgid "%%d a"\nmsgid_plural "%%d b"\nmsgstr[0] "c"\nmsgstr[1] "%%Id d"\n' -c
+answers 'the flag I in a plural' ours "$c"'msgid "%%d a"\nmsgid_plural "%%d b"\nmsgstr[0] "c"\nmsgstr[1] "%%Id d"\n'
 answers 'the flag I of the plural alone' ours "$c"'msgid "a"\nmsgid_plural "%%Id b"\nmsgstr[0] "c"\nmsgstr[1] "d"\n'
 answers 'the flag I with a context' ours "$c"'msgctxt "%%Id"\nmsgid "%%d"\nmsgstr "%%Id"\n' -c
 answers 'the flag I beside other messages' ours "$ab$c"'msgid "%%d"\nmsgstr "%%Id"\n' --statistics
@@ -114,7 +119,7 @@ answers 'the flag I, Objective-C' 'GNU\t0\tobjc-format' '#, objc-format\nmsgid "
 answers 'a macro, Objective-C' 'GNU\t0\tobjc-format' '#, objc-format\nmsgid "%%<PRId64>"\nmsgstr "%%<PRId64> x"\n'
 answers 'no macro, Objective-C' ours '#, objc-format\nmsgid "%%d"\nmsgstr "%%d x"\n'
 answers 'the flag I of no format' ours 'msgid "%%d"\nmsgstr "%%Id"\n'
-answers 'a macro, two lines of flags' "$other" "$c"'#, no-wrap\n'"$macro"
+answers 'a macro, two lines of flags' ours "$c"'#, no-wrap\n'"$macro"
 answers 'a macro in another charset' ours "$c"'msgid "%%<PRId64>"\nmsgstr "\303\251 %%<PRId64>"\n'
 answers 'a macro, a header without fields' ours "$c$macro" -c -v
 answers 'a macro, untranslated' ours "$ab"'#, c-format\nmsgid "%%<PRId64>"\nmsgstr ""\n'
