@@ -108,12 +108,13 @@ static void look_at_kept(struct scan *scan, const struct entry *entry) {
         scan->needs.format = flags->checked;
     bool has_macro = flags->c_format && may_depend;
     scan->needs.plain_macros += may_depend && !has_macro && (names_macro(entry->id) || names_macro(forms));
-    bool has_flag = flags->c_format && has_library() && may_have_digits_flag(forms);
-    scan->needs.is_dependent |= has_macro || has_flag;
+    bool may_be_format = flags->c_format || flags->our_c_format;
+    bool has_flag = may_be_format && has_library() && may_have_digits_flag(forms);
+    scan->needs.is_dependent |= has_macro || (flags->c_format && has_flag);
     scan->needs.helps |= has_macro && !has_library();
     if (has_macro && !has_library())
         needs_gnu_for(scan, "system-dependent format");
-    else if (((checks || may_depend) && flags->c_format != flags->our_c_format) ||
+    else if (((checks || may_depend || has_flag) && flags->c_format != flags->our_c_format) ||
              (checks && (flags->checked != flags->our_checked || flags->is_checked_again)))
         needs_gnu_for_flags(scan);
 }
