@@ -6,8 +6,8 @@ msgfmt and for which reason, and whether status and MO file are the same. Run by
     tests/msgfmt/real.py --options='-c -f' --options=--check-format FOLDER ..
     tests/msgfmt/real.py --most 80 FOLDER ..
 
-Without --options each file is compiled with each line of BUILDS, which are the options of build systems. With --most at
-most so many files of each folder are taken, from its beginning to its end at equal distances. The driver
+Without --options each file is compiled with each line of BUILDS, which are the options of build systems. With --most N
+at most N files of each folder are taken, from its beginning to its end at equal distances. The driver
 (DRIVER=PATH names another one) has no GNU msgfmt on its PATH. Prints two tables of Markdown, for each set of options how
 many files were left to GNU msgfmt for a reason, and how the results compare; then a line for each file whose results
 differ without such a reason, and the status is 1. GNU msgfmt is that of tools/gnu-msgfmt, and msgconv lies beside it.
@@ -158,7 +158,7 @@ def results_of(found: list[Compared]) -> Counter[str]:
 
 
 def files_below(folder: Path, most: int) -> list[Path]:
-    """The PO files below a folder; of more than `most` files at most so many."""
+    """The PO files below a folder, at most `most` of them."""
     found = sorted(it for it in folder.rglob("*.po") if it.is_file() and not it.is_symlink())
     return found[:: -(-len(found) // most) or 1] if most else found
 
