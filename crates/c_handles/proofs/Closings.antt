@@ -1,4 +1,4 @@
--- A trace is one without its closings, too.
+-- A trace without its closings is also one.
 use Rattle.std.proofs.Common.{◌≡◌, ℕ, List, [], ◌∷◌, refl, ap, subst}
 use Rattle.c_sets.specs.Making.{IsSetAnswer, set_number}
 use Rattle.c_stores.specs.Storing.{IsNewStore, IsReclaimed, IsStoreNumber, IsNoticeOf, IsEntranceOf, IsLeft}

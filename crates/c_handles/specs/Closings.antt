@@ -27,7 +27,7 @@ without_closings (ClosesEntrance entrance ∷ calls) = without_closings calls
 without_closings (ClosesReader reader ∷ calls) = without_closings calls
 without_closings (call ∷ calls) = call ∷ without_closings calls
 
--- a trace is one without its closings, too, and comes to the same values of all handles
+-- a trace without its closings is also one, and comes to the same values of all handles
 abbrev pub ClosingsMayComeLast : Type 0
 ClosingsMayComeLast = (trace : List Call) (h : Handles) → IsTrace no_handles trace h
     → IsTrace no_handles (without_closings trace) (all_kept h)

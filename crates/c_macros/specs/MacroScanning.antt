@@ -85,7 +85,7 @@ abbrev pub named_parts : ℕ → Option code_named.Named → List Split
 named_parts total None = []
 named_parts total (Some named) = split (total - named.left) named.len ∷ []
 
--- the parts of a directive of the code, in a text of so many bytes
+-- the parts of a directive of the code, in a text of this many bytes
 abbrev pub parts_of : ℕ → code_directive.Directive → List Split
 parts_of total d = flag_splits (total - d.head.flags_left) d.head.flags.now ++ named_parts total d.named
 
@@ -93,7 +93,7 @@ abbrev pub NamedFits : ℕ → Option code_named.Named → Type 0
 NamedFits total None = Unit {0}
 NamedFits total (Some named) = named.left ≤ total
 
--- the parts of a directive are in a text of so many bytes
+-- the parts of a directive are in a text of this many bytes
 pub record Fits (total : ℕ) (d : code_directive.Directive) : Type 0 where
   pub flags : length d.head.flags.now ≤ d.head.flags_left
   pub left : d.head.flags_left ≤ total

@@ -29,11 +29,11 @@ flag_splits start [] = []
 flag_splits start (flag ∷ more) =
     if flag == other_digits then split start 1 ∷ flag_splits (start + 1) more else flag_splits (start + 1) more
 
--- the flags' parts of a directive in a text of so many bytes
+-- the flags' parts of a directive in a text of this many bytes
 abbrev pub head_splits : ℕ → (head : Head) (text rest : List ℕ) → HeadAt head text rest → List Split
 head_splits total head text rest at = flag_splits (total - length at.behind_number) head.flags
 
--- the macro between these ends of a text of so many bytes
+-- the macro between these ends of a text of this many bytes
 abbrev pub macro_split : ℕ → List ℕ → List ℕ → Split
 macro_split total text rest = split (total - length text) (length text - length rest)
 
@@ -42,7 +42,7 @@ pub record Parted : Type 0 where
   pub directive : Directive
   pub parts : List Split
 
--- an end of a text of so many bytes is the directive, which has these parts, followed by rest
+-- an end of a text of this many bytes is the directive, which has these parts, followed by rest
 abbrev pub HasPartsAt : ℕ → Directive → List Split → List ℕ → List ℕ → Type 0
 HasPartsAt total (Spelled d) parts text rest =
     (at : c.DirectiveAt d text rest) × (parts ≡ head_splits total d.head text at.behind_head at.head)

@@ -321,7 +321,7 @@ pub fn options_of(checked: u32, use_fuzzy: u32) -> Options
 
 /// The catalogue of a PO text, or the first reason why it is refused. An option is on if its number isn't 0; with
 /// `without_index` the catalogue gets no index, and answers as with one. Unless `strict` is on, a text whose formats
-/// name macros is opened, too: its messages are as x86-64 Linux has them, and its MO file is of revision 0.1 or 1.1. So
+/// name macros is also opened: its messages are as x86-64 Linux has them, and its MO file is of revision 0.1 or 1.1. So
 /// is the file of a text with a translation that is flagged `c-format` and has the flag `I` in a directive.
 pub fn open_po(
     alloc: Global,

@@ -33,7 +33,7 @@ pub record KeepsAsked (asked : List Request) (kept : Requests) : Type 0 where
   pub unnumbered : kept.unnumbered.items ≡ filter_map unnumbered_kind asked
   pub numbered : kept.numbered.items ≡ filter_map row_of asked
 
--- these requests are kept, too
+-- these requests are also kept
 abbrev pub AddsAsked : Requests → Requests → List Request → Type 0
 AddsAsked old new more = (asked : List Request) → KeepsAsked asked old → KeepsAsked (asked ++ more) new
 

@@ -40,7 +40,7 @@ fn write_text(output: &mut Vec<u8>, text: &str) -> Result<(), AllocError>
     output.extend_from_slice(text.as_bytes())
 }
 
-/// The line of a load. Memory may have run out in the load, too.
+/// The line of a load. Memory may also have run out in the load.
 pub(crate) fn load_line(
     alloc: Global,
     made: Result<Accepted, StoreFault>,

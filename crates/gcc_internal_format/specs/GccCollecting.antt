@@ -29,6 +29,6 @@ pub record HasCollected (requests : List Request) (collected : Collected) : Type
   pub own : collected.own ≡ list_any is_own requests
   pub next : collected.next ≡ list_any is_next requests
 
--- these were collected, too
+-- these were also collected
 abbrev pub Adds : Collected → Collected → List Request → Type 0
 Adds old new more = (requests : List Request) → HasCollected requests old → HasCollected (requests ++ more) new

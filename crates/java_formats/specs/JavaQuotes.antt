@@ -38,7 +38,7 @@ len_before sort quoted (b ∷ more) =
 abbrev pub depth_behind : ℕ → ℕ → ℕ
 depth_behind b depth = if b == open_brace then depth + 1 else if b == close_brace then depth - 1 else depth
 
--- how many bytes stand before the brace that closes none of these and of those that they open; quoted ones count, too
+-- how many bytes stand before the brace that closes none of these and of those that they open; quoted ones also count
 abbrev pub inner_len : ℕ → List ℕ → ℕ
 inner_len depth [] = 0
 inner_len depth (b ∷ more) =

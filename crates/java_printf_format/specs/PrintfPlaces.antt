@@ -41,7 +41,7 @@ with_number taken place (Some kind) (Some number) = Some (record {
   last = Some number;
 })
 
--- what was taken when this directive took its argument, too; None: it refers to the one before, and there is none
+-- what had been taken once this directive took its argument; None: it refers to the one before, and there is none
 abbrev pub with_one : Taken → Directive → Option Taken
 with_one taken d = with_number taken d.place d.kind (number_at d.place taken)
 

@@ -31,13 +31,13 @@ collects old new ds d e f h = record {
   next = f ∙ ap (λ (n : ℕ). behind (place n d) d.kind) h.next ∙ sym (next_more 1 ds d);
 }
 
--- a directive without an argument was collected, too
+-- a directive without an argument was also collected
 pub goes_to : (old : Counted) (d : Directive) (number : ℕ) → d.kind ≡ None → number ≡ place old.next d
     → Adds old (record { asked = old.asked; next = number }) d
 goes_to old d number none e = λ ds h. collects old (record { asked = old.asked; next = number }) ds d
     (rw none (sym (append-nil old.asked.items))) (rw none e) h
 
--- a directive with one was collected, too
+-- a directive with one was also collected
 pub takes : (old new : Counted) (d : Directive) (number : ℕ) (kind : Kind) → d.kind ≡ Some kind
     → number ≡ place old.next d → Takes old new number kind → Adds old new d
 takes old new d number kind some e t = λ ds h. collects old new ds d

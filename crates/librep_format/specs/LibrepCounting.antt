@@ -40,11 +40,11 @@ pub record HasCounted (directives : List Directive) (counted : Counted) : Type 0
   pub asked : counted.asked.items ≡ numbered directives
   pub next : counted.next ≡ next_behind 1 directives
 
--- this argument was collected, too
+-- this argument was also collected
 pub record Takes (old new : Counted) (number : ℕ) (kind : Kind) : Type 0 where
   pub asked : new.asked.items ≡ old.asked.items ++ taken number (Some kind)
   pub next : new.next ≡ behind number (Some kind)
 
--- what this one asks for was collected, too
+-- what this one asks for was also collected
 abbrev pub Adds : Counted → Counted → Directive → Type 0
 Adds old new d = (directives : List Directive) → HasCounted directives old → HasCounted (directives ++ d ∷ []) new

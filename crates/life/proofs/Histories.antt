@@ -15,7 +15,7 @@ use Rattle.life.specs.Life.{Met, Entry, Notice, met_in, met}
 
 -- ---- the next batch
 
--- of two beginnings of one list the longer one has the next batch, too
+-- of two beginnings of one list the longer one also has the next batch
 next_batch : (fin now : List (List LoadValue)) (p x : List LoadValue) (xs : List (List LoadValue))
     → StartsWith fin (now ++ x ∷ xs) → StartsWith fin (now ++ p ∷ [])
     → StartsWith (now ++ x ∷ xs) (now ++ p ∷ [])

@@ -38,7 +38,7 @@ abbrev pub HasLife : StoreValue → StoreValue → List Command → List Outcome
 HasLife s t commands outcomes before after = (work : List Event) (acts : List (List Act))
     → Reached (lists_of s) (seen_by_all before) work acts → Lives s t commands outcomes after work acts
 
--- after a run that ended early, too, what the publisher did is a legal history of its store: some first commands are
+-- even after a run that ended early, what the publisher did is a legal history of its store: some first commands are
 -- more events of it
 pub record KeepsWorking (work : List Event) (s t : StoreValue) (commands : List Command) : Type 0 where
   pub first : List Command

@@ -42,7 +42,7 @@ pub fn serve_keeps()
     ensures { ServeKeeps }
 {}
 
-/// After a run that ended early, too, what its publisher did is a legal history: some first commands are more events.
+/// Even after a run that ended early, what its publisher did is a legal history: some first commands are more events.
 pub fn stop_keeps()
     ensures { StopKeeps }
 {}

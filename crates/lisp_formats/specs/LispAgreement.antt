@@ -18,7 +18,7 @@ same_kind Complex Complex = true
 same_kind Nil Nil = true
 same_kind _ _ = false
 
--- each object of a kind is of another one, too
+-- each object of a kind is also of another one
 abbrev pub is_within : Kind → Kind → Bool
 is_within kind Any = true
 is_within Character OptionalCharacter = true

@@ -23,7 +23,7 @@ fn same_kind(one: Kind, other: Kind) -> bool
     )
 }
 
-/// Whether each object of one kind is of another one, too.
+/// Whether each object of one kind is also of another one.
 fn is_within(kind: Kind, other: Kind) -> bool
     ensures { result ≡ spec.is_within kind other }
 {
@@ -52,7 +52,7 @@ fn are_same(original: &[Kind], translation: &[Kind]) -> bool
             .all(|(one, other)| same_kind(*one, *other))
 }
 
-/// Whether each of the original's is one of the translation's, too, whose kind is within its own.
+/// Whether each of the original's is also one of the translation's, whose kind is within its own.
 fn are_within(original: &[Kind], translation: &[Kind]) -> bool
     ensures { result ≡ spec.agree original.now translation.now Lenient }
 {
@@ -64,7 +64,7 @@ fn are_within(original: &[Kind], translation: &[Kind]) -> bool
 }
 
 /// Whether the arguments of a translation agree with those of its original, as strictly as `rule` asks: they are of
-/// the same kinds, or, leniently, each of the original's is one of the translation's, too, whose kind may be narrower;
+/// the same kinds, or, leniently, each of the original's is also one of the translation's, whose kind may be narrower;
 /// the translation may ask for more.
 pub fn agrees(original: &[Kind], translation: &[Kind], rule: Strictness) -> bool
     ensures { result ≡ spec.agree original.now translation.now rule }

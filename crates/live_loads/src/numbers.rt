@@ -33,7 +33,7 @@ pub fn po_number(kind: LoadKind) -> u32
     }
 }
 
-/// The number of an MO file's fault: its rank, too.
+/// The number of an MO file's fault, which is also its rank.
 pub fn mo_number(fault: MoFault) -> u32
     ensures { result ≡ mo_rank fault }
 {

@@ -189,7 +189,7 @@ module _ (bytes : List ℕ) (s : Stretch) (is : IsStretch bytes s) (start end : 
   front_utf8 whole = subst IsUtf8 (sym front_in)
       (begins_inside bytes s.start known start end le most within known_utf8 whole)
 
-  -- its rest is UTF-8, too
+  -- its rest is also UTF-8
   pub rest_utf8 : IsUtf8 (part s.text.now (start - s.start) (length s.text.now)) → IsUtf8 (part bytes start end)
       → IsUtf8 (part bytes known end)
   rest_utf8 front whole = ends_behind bytes start known end more most within (subst IsUtf8 front_in front) whole

@@ -14,7 +14,7 @@ pub record HasNumbered (requests : List Request) (numbering : Numbering) : Type 
   pub asked : numbering.asked.items ≡ numbered requests
   pub next : numbering.next ≡ next_behind 1 requests
 
--- these got their numbers, too
+-- these also got their numbers
 abbrev pub AddsRequests : Numbering → Numbering → List Request → Type 0
 AddsRequests old new more =
     (requests : List Request) → HasNumbered requests old → HasNumbered (requests ++ more) new

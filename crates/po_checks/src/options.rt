@@ -5,6 +5,6 @@
 pub struct Options {
     /// Also run the checks of `msgfmt -c`.
     pub checked: bool,
-    /// Keep fuzzy entries, too (`msgfmt -f`).
+    /// Also keep fuzzy entries (`msgfmt -f`).
     pub use_fuzzy: bool,
 }

@@ -34,7 +34,7 @@ pub run-none : (xs : List Token) → run None xs ≡ None
 run-none [] = refl
 run-none (x ∷ xs) = run-none xs
 
--- the front of a list that the parser takes is taken, too
+-- the front of a list that the parser takes is also taken
 pub live_front : (p q : Stage) (xs ys : List Token) → run (Some p) (xs ++ ys) ≡ Some q → (r : Stage)
     × (run (Some p) xs ≡ Some r)
 live_front p q xs ys e = at (run (Some p) xs) refl

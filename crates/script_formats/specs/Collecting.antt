@@ -42,6 +42,6 @@ pub record HasCollected (requests : List Request) (collected : Collected) : Type
   pub numbered : HasNumbered requests collected.numbering
   pub used : HasUsed requests collected.used
 
--- these were collected, too
+-- these were also collected
 abbrev pub Adds : Collected → Collected → List Request → Type 0
 Adds old new more = (requests : List Request) → HasCollected requests old → HasCollected (requests ++ more) new

@@ -118,7 +118,7 @@ begins_moves v a cs log kept pre away =
 
 -- ---- a batch
 
--- if so many turns were given, this many batches were made
+-- as many batches were made as turns were given
 batches_made_by : (log : Log) (turns : List Cell) (n : ℕ) → AreGiven turns log → length turns ≡ n + 1
     → length (batches_of log) ≡ n
 batches_made_by log turns n (inl given) is = omega (arith, given, is)

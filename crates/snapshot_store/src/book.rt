@@ -2,7 +2,7 @@
 //!
 //! A book is a history that exists in proofs alone (`logbook`). Its words are two numbers at run time: how many turns
 //! to show a version were given, and how many batches are shown. A `Seen` is a beginning of the history. A `Turn`
-//! exists in proofs alone, too.
+//! also exists in proofs alone.
 ghost use Rattle.std.specs.Prelude.{◌≡◌, ◌≢◌, ◌+◌, ◌*◌, ◌/◌, ◌%◌, ◌<◌, ◌≤◌, ◌^◌, ◌++◌, ◌∷◌, []};
 ghost use Rattle.std.specs.Prelude.{length, MatchBool, IfSome, IfOk, IfErr};
 ghost use Rattle.live_loads.specs.Batches.{StartsWith};

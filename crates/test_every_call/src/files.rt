@@ -19,7 +19,7 @@ const EMPTY: &[u8] = b"\xde\x12\x04\x95\0\0\0\0\0\0\0\0\x1c\0\0\0\x1c\0\0\0\0\0\
 const KOI8: &[u8] = b"\xde\x12\x04\x95\0\0\0\0\x01\0\0\0\x1c\0\0\0\x24\0\0\0\0\0\0\0\x2c\0\0\0\
     \0\0\0\0\x2c\0\0\0\x0e\0\0\0\x2d\0\0\0\0charset=KOI8-R\0";
 
-/// Files: a label, whether `check` is called with it, too, the bytes, and how many of these are the file.
+/// Files: a label, whether `check` is also called with it, the bytes, and how many of these are the file.
 const FILES: &[(&str, bool, &[u8], usize)] = &[
     ("two messages", true, &SWAPPED, 78),
     ("nothing", false, EMPTY, 28),

@@ -5,7 +5,7 @@ use po_text::read_po;
 use std::alloc::{AllocError, Global};
 use std::test::Fail;
 
-/// Powers of two and their neighbours; all numbers up to 40 are tried, too.
+/// Powers of two and their neighbours; all numbers up to 40 are also tried.
 const SIZES: [usize; 18] = [
     63, 64, 65, 127, 128, 129, 255, 256, 257, 511, 512, 513, 1023, 1024, 1025, 2047, 2048, 2049,
 ];
