@@ -1,15 +1,17 @@
 #!/usr/bin/env python3
 """Writes a PO file of about BYTES bytes, always the same one for the same SEED, on standard output.
 
-    bench/make_po.py [--short] BYTES SEED > FILE
+    bench/make_po.py [--short] [--script SCRIPT] BYTES SEED > FILE
 
 The file has the lengths and the parts of real ones: unique messages of one word to a page, one in ten with a
 context, some with three plural forms, C formats, references, comments of translators and programmers, strings
 over several lines, escapes, and a few fuzzy, untranslated and obsolete entries. With --short the messages are as long
 as those of the catalogues that a Debian system has installed, 31 bytes on average. Translations are in Latin script
-with accents, in Cyrillic, and in Chinese and Japanese. GNU `msgfmt -c` passes it without a word.
+with accents, in Cyrillic, and in Chinese and Japanese; with --script they are in one alone: western, which ISO-8859-1
+has, cyrillic, which KOI8-R has, or chinese, which GBK has. GNU `msgfmt -c` passes it without a word.
 It ends with the last whole entry that fits, so it is shorter than BYTES by less than the longest entry.
 """
+import argparse
 import sys
 from random import Random
 
@@ -77,6 +79,9 @@ CJK = """文件 文件夹 窗口 文档 页面 文本 图像 声音 消息 帐�
 ファイル フォルダー ウィンドウ 設定 読み込み 保存しました エラーが発生しました 接続できません 印刷 検索 置換 追加 編集
 表示する 閉じる 次へ 前へ ください です ました ません から まで について による 更新中 ユーザー パスワード""".split()
 
+# the words of each script that a charset of its own has
+SCRIPTS = {"western": ("iso-8859-1", LATIN), "cyrillic": ("koi8-r", CYRILLIC), "chinese": ("gbk", CJK)}
+
 CONTEXTS = """menu button dialog title tooltip column header status bar command action label error keyboard
 toolbar printer calendar month weekday colour unit verb noun adjective""".split()
 
@@ -91,9 +96,10 @@ WIDTH = 77
 class Writer:
     """Draws entries; it uses the bare `random()` alone, whose numbers are the same in each version of Python."""
 
-    def __init__(self, seed, is_short=False):
+    def __init__(self, seed, is_short=False, script=None):
         self.random = Random(seed).random
         self.is_short = is_short
+        self.script = script and [it for it in SCRIPTS[script][1] if has(SCRIPTS[script][0], it)]
         self.seen = set()
 
     def below(self, limit):
@@ -164,6 +170,8 @@ class Writer:
         }
 
     def translation(self, count, formats, shape):
+        if self.script:
+            return self.text(self.words(self.script, count), formats, shape)
         kind = self.random()
         if kind < 0.40:
             return self.text(self.words(CYRILLIC, count), formats, shape)
@@ -174,7 +182,7 @@ class Writer:
     def comments(self):
         lines = []
         if self.random() < 0.06:
-            lines.append("# " + " ".join(self.words(CYRILLIC, 3 + self.below(8))))
+            lines.append("# " + " ".join(self.words(self.script or CYRILLIC, 3 + self.below(8))))
         if self.random() < 0.12:
             lines.append("#. " + " ".join(self.words(ENGLISH, 4 + self.below(12))))
         places = [f"src/{self.one_of(SOURCES)}/{self.one_of(SOURCES)}.c:{1 + self.below(3000)}" for _ in range(1 + self.below(4) // 2)]
@@ -214,6 +222,14 @@ class Writer:
         return "\n" + "\n".join(lines) + "\n"
 
 
+def has(charset, text):
+    """Whether a charset has all characters of a text."""
+    try:
+        return bool(text.encode(charset))
+    except UnicodeEncodeError:
+        return False
+
+
 def escaped(text):
     text = text.replace("\\", "\\\\").replace('"', '\\"').replace("\t", "\\t").replace("\n", "\\n")
     return text.replace("é", "\\303\\251", 1) if text.startswith("é") else text
@@ -247,12 +263,14 @@ def line_end(part):
     return cut
 
 
-def main(arguments):
-    is_short = arguments[:1] == ["--short"]
-    numbers = arguments[is_short:]
-    if len(numbers) != 2 or not all(it.isascii() and it.isdigit() for it in numbers):
-        sys.exit("usage: make_po.py [--short] BYTES SEED")
-    size, writer = int(numbers[0]), Writer(int(numbers[1]), is_short)
+def main():
+    parser = argparse.ArgumentParser(usage="make_po.py [--short] [--script SCRIPT] BYTES SEED")
+    parser.add_argument("--short", action="store_true")
+    parser.add_argument("--script", choices=SCRIPTS)
+    parser.add_argument("size", type=int)
+    parser.add_argument("seed", type=int)
+    asked = parser.parse_args()
+    size, writer = asked.size, Writer(asked.seed, asked.short, asked.script)
     out = sys.stdout.buffer
     left = size - len(HEADER.encode())
     out.write(HEADER.encode())
@@ -266,4 +284,4 @@ def main(arguments):
 
 
 if __name__ == "__main__":
-    main(sys.argv[1:])
+    main()
