@@ -2,9 +2,10 @@
 other languages, and PO files that are installed. Status, the number of faults and the lines with them must be the same,
 and of Python without a plural the words as well.
 
-usage: tests/driver/formats.py DRIVER GNU ROOM [--files N] [--seed N] [PO ..]
+usage: tests/driver/formats.py DRIVER GNU ROOM [--files N] [--seed N] [--flag FLAG] [PO ..]
 
-GNU msgfmt prints the first fault of a line alone, so only that is compared. Prints lines for the test harness.
+A generated file has 150 entries. With --flag they all have this flag, and otherwise any. GNU msgfmt prints the first fault
+of a line alone, so only that is compared. Prints lines for the test harness.
 """
 
 import argparse
@@ -13,6 +14,7 @@ import random
 import re
 import subprocess
 import sys
+from collections.abc import Callable
 from concurrent.futures import ThreadPoolExecutor
 from pathlib import Path
 
@@ -56,6 +58,32 @@ SCHEME = ("~a", "~s", "~d", "~d", "~va", "~10,'0d", "~c", "~65c", "~f", "~i", "~
 SCHEME_FAULTS = ("~", "~z", "~-a", "~'", "~'xa", "~5p", "~)", "~w", "~,'xt", "~1,2%", "~\u00e9")
 LISP = ("~a", "~S", "~d", "~d", "~va", "~10,'0d", "~c", "~f", "~$", "~p", "~:p", "~%", "~~", "~2,3t", "~w", "~5i", "~_", "~v,'xx")
 LISP_FAULTS = ("~", "~y", "~+d", "~'", "~'xa", "~5w", "~]", "~65c", "~,,'0t", "~5_", "~\u00e9")
+TCL = ("%s", "%s", "%d", "%hd", "%u", "%hx", "%c", "%1$s", "%1$s", "%2$d", "%2$hd", "%e", "%5.3f", "%*d", "%.*f", "%1$*d", "%%", "%-05d",
+       "%ld", "%4294967297$s")  # fmt: skip
+TCL_FAULTS = ("%", "%b", "%lld", "%a", "%5%", "%0$s", "%1$", "%'d", "%1$d", "%.", "%*2$d", "%\u00e9")
+AWK = ("%s", "%s", "%d", "%i", "%c", "%x", "%f", "%G", "%1$s", "%1$s", "%2$d", "%*d", "%.*f", "%2$*1$d", "%2$.*1$d", "%*2$%", "%%", "%5%",
+       "%5.d", "%4294967297$s")  # fmt: skip
+AWK_FAULTS = ("%", "%a", "%F", "%ld", "%'d", "%0$s", "%*0$d", "%1$d", "%1$", "%*1d", "%.", "%\u00e9")
+LUA = ("%s", "%s", "%q", "%d", "%d", "%i", "%u", "%c", "%x", "%5.3f", "%.d", "%a", "%05x", "%%", "%g")
+LUA_FAULTS = ("%", "%y", "%*d", "%1$s", "%ld", "%p", "%5%", "%-5s", "%.", "%\u00e9")
+# Without `*`, at which GNU msgfmt 0.21 spoils its own memory.
+PASCAL = ("%s", "%s", "%d", "%X", "%e", "%M", "%P", "%0:s", "%0:s", "%1:d", "%1:d", "%:5s", "%-8.3n", "%%", "%4294967296:s")
+PASCAL_FAULTS = ("%", "%y", "%.", "%5.s", "%1:", "%-", "%1$s", "%c", "%1:s", "%i", "%0:d", "%\u00e9")
+LIBREP = ("%s", "%s", "%S", "%d", "%c", "%x", "%1$s", "%1$s", "%2$d", "%2$%", "%5.3d", "%-^0+ 8s", "%.s", "%%", "%4294967297$s")
+LIBREP_FAULTS = ("%", "%y", "%0$s", "%*d", "%1$", "%ld", "%1$d", "%f", "%\u00e9")
+BOOST = ("%1%", "%1%", "%2%", "%s", "%d", "%1$s", "%1$d", "%2$d", "%|1$d|", "%|s|", "%|5.3|", "%5.2f", "%*d", "%2$*1$d", "%c", "%p", "%t",
+         "%5T*", "%%", "%|2$T||", "%hld", "%-+#0'_=d", "%||", "%4294967297%")  # fmt: skip
+BOOST_FAULTS = ("%", "%a", "%F", "%|1%|", "%0%", "%01%", "%0$d", "%1$", "%|", "%|s", "%y", "%*0$d", "%\u00e9")
+DOTNET = ("{0}", "{0}", "{1}", "{2}", "{0,5}", "{0,-5}", "{1:N2}", "{1,3:x y}", "{{", "}}", "{4294967296}", "{0:{}", "{00}", "{7}")
+DOTNET_FAULTS = ("{", "}", "{}", "{0 }", "{0, 5}", "{0,}", "{0,-}", "{a}", "{-1}", "{0:", "{0,5", "{ 0}", "{0:{{}}}", "{\u00e9}")
+FORMATTER = ("%s", "%s", "%d", "%1$s", "%1$s", "%2$d", "%<s", "%<d", "%x", "%f", "%e", "%c", "%b", "%h", "%tY", "%Tm", "%1$tH", "%n", "%%",
+             "%-5s", "%05d", "%(,+.2f", "%S", "%a", "%#x", "%4294967297$s")  # fmt: skip
+FORMATTER_FAULTS = ("%", "%y", "%0$s", "%*d", "%ld", "%5n", "%.3d", "%-d", "%t", "%tx", "%<", "%1$", "%1$d", "%+s", "%.c", "%--5d", "%-05d",
+                    "%+ d", "%,x", "%#d", "%\u00e9")  # fmt: skip
+KUIT = ("%1", "%1", "%2", "%3", "<link>%1</link>", "<b/>", "<a b='1'>x</a>", "<A b = '%2' c='2' />", "&#38;", "&lt;", "&nbsp;", "&", "a > b",
+        "<!-- c %2 -->", "<![CDATA[ < & ]]>", "<?go?>", "</a >", "<a>", "<\u00e9/>", "<a b='1>'/>")  # fmt: skip
+KUIT_FAULTS = ("<", "</a>", "<a>", "<a></b>", "<br>", "a < b", "]]>", "&#0;", "&#xD800;", "&#x;", "<a%1/>", "<a b/>", "<!-- -- -->", "<a b='<'/>",
+               "<a b='1'c='2'/>", "<a b='1' b='2'/>", "<?xml?>", "<![CDATA[", "<!x>", "%4")  # fmt: skip
 # The other languages that are checked, each with directives and with faults. A loop of Lisp's is left to GNU msgfmt.
 OTHERS = {
     "kde-format": (tuple(text for text in NUMBERS if text[1] not in "Ln0") + ("%1", "%2"), NUMBER_FAULTS),
@@ -67,11 +95,22 @@ OTHERS = {
     "php-format": (PHP, PHP_FAULTS),
     "perl-format": (PERL, PERL_FAULTS),
     "javascript-format": (SCRIPT, SCRIPT_FAULTS),
+    "tcl-format": (TCL, TCL_FAULTS),
+    "awk-format": (AWK, AWK_FAULTS),
+    "lua-format": (LUA, LUA_FAULTS),
+    "object-pascal-format": (PASCAL, PASCAL_FAULTS),
+    "librep-format": (LIBREP, LIBREP_FAULTS),
+    "smalltalk-format": (("%1", "%1", "%2", "%2", "%3", "%9", "%%"), NUMBER_FAULTS),
+    "boost-format": (BOOST, BOOST_FAULTS),
+    "csharp-format": (DOTNET, DOTNET_FAULTS),
+    "kde-kuit-format": (KUIT, KUIT_FAULTS),
     "java-format": (JAVA, JAVA_FAULTS),
+    "java-printf-format": (FORMATTER, FORMATTER_FAULTS),
     "gcc-internal-format": (GCC, GCC_FAULTS),
     "scheme-format": (SCHEME, SCHEME_FAULTS),
     "lisp-format": (LISP, LISP_FAULTS),
 }
+LANGUAGES = {"python-format": (PERCENT, PERCENT_FAULTS), "python-brace-format": (BRACE, BRACE_FAULTS), **OTHERS}
 FAULT = re.compile(rb"^[^\n:]*:(\d+): (.*)$")
 COUNT = re.compile(rb"^[^\n]*: found (\d+) fatal errors?$")
 CUT = re.compile(rb"In the directive number \d+, '$")  # GNU msgfmt prints the NUL at the end of a text
@@ -96,23 +135,34 @@ def translation_of(rng: random.Random, original: str, pieces: tuple[str, ...], f
     return " ".join(words)
 
 
-def chosen_python(rng: random.Random) -> tuple[str, tuple[str, ...], tuple[str, ...]]:
+# A flag, with the directives of its texts and with faults.
+Grammar = tuple[str, tuple[str, ...], tuple[str, ...]]
+
+
+def chosen_python(rng: random.Random) -> Grammar:
     """A flag of Python's formats, or of both, with the directives of its texts and with faults."""
     flag = rng.choice(("python-format", "python-brace-format", "python-format, python-brace-format", "possible-python-format",
                        "python-format, no-python-format", "python-brace-format no-wrap"))  # fmt: skip
     return (flag, BRACE, BRACE_FAULTS) if flag.startswith("python-brace") else (flag, PERCENT, PERCENT_FAULTS)
 
 
-def chosen_other(rng: random.Random) -> tuple[str, tuple[str, ...], tuple[str, ...]]:
+def chosen_other(rng: random.Random) -> Grammar:
     """A flag of another language, now and then of a second one."""
     flag = rng.choice(list(OTHERS))
     second = f", {rng.choice(list(OTHERS))}" if rng.random() < 0.1 else ""
     return (flag + second, *OTHERS[flag])
 
 
-def entry(rng: random.Random, number: int, has_plurals: bool, is_python: bool) -> str:
+def choices(flag: str | None) -> dict[str, Callable[[random.Random], Grammar]]:
+    """How the files choose their flags, each kind by what its name begins with; of one flag, that alone."""
+    if flag is None:
+        return {"": chosen_python, OTHER: chosen_other}
+    return {f"{OTHER}{flag}-": lambda _: (flag, *LANGUAGES[flag])}
+
+
+def entry(rng: random.Random, number: int, has_plurals: bool, choose: Callable[[random.Random], Grammar]) -> str:
     """An entry flagged as a format."""
-    flag, pieces, faults = chosen_python(rng) if is_python else chosen_other(rng)
+    flag, pieces, faults = choose(rng)
     original = text_of(rng, pieces, faults)
     lines = [f"#, {flag}", f'msgctxt "{number}"', f'msgid "{original}"' if original else 'msgid "x"']
     if rng.random() < 0.3 and has_plurals:
@@ -124,9 +174,9 @@ def entry(rng: random.Random, number: int, has_plurals: bool, is_python: bool) -
     return "\n".join(lines) + "\n\n"
 
 
-def generated(seed: int, has_plurals: bool, is_python: bool) -> bytes:
+def generated(seed: int, has_plurals: bool, choose: Callable[[random.Random], Grammar]) -> bytes:
     rng = random.Random(seed)
-    return (HEADER + "".join(entry(rng, number, has_plurals, is_python) for number in range(ENTRIES))).encode()
+    return (HEADER + "".join(entry(rng, number, has_plurals, choose) for number in range(ENTRIES))).encode()
 
 
 def answer(program: str, option: str, path: Path, environment: dict[str, str]) -> tuple[int, bytes]:
@@ -190,6 +240,7 @@ def main() -> None:
     parser.add_argument("room", type=Path)
     parser.add_argument("--files", type=int, default=40)
     parser.add_argument("--seed", type=int, default=1)
+    parser.add_argument("--flag", choices=LANGUAGES)
     parser.add_argument("po", nargs="*", type=Path)
     arguments = parser.parse_intermixed_args()
     comparison = Comparison(arguments.driver, arguments.gnu)
@@ -197,9 +248,9 @@ def main() -> None:
     made: dict[str, list[Path]] = {"--check-format": [], "-c": []}
     for option, paths in made.items():
         for seed in range(arguments.seed, arguments.seed + arguments.files):
-            for name in ("", OTHER):
+            for name, choose in choices(arguments.flag).items():
                 paths.append(arguments.room / f"{name}{seed}{option}.po")
-                paths[-1].write_bytes(generated(seed, option == "-c", not name))
+                paths[-1].write_bytes(generated(seed, option == "-c", choose))
     with ThreadPoolExecutor(4) as pool:
         done = [
             report(f"driver, formats, {name}, {option}",
