@@ -1,13 +1,13 @@
--- Where no `%` in a file leads to the flag `I`, no translation in it has a directive with the flag.
-use Rattle.std.proofs.Common.{◌≡◌, ℕ, ◌+◌, ◌*◌, ◌≤◌, Bool, true, false, List, [], ◌∷◌, ◌++◌, map, take, length, Some}
+-- Where no `%` in the translations of a map leads to the flag `I`, none of them has a directive with the flag.
+use Rattle.std.proofs.Common.{◌≡◌, ℕ, ◌+◌, ◌≤◌, Bool, true, false, List, [], ◌∷◌, map, take, length, Some}
 use Rattle.std.proofs.Common.{refl, sym, subst, ◌∙◌, inl, inr}
 use Rattle.std.specs.Prelude.{◌↔◌, IsTrue, not, slice_get}
 use Rattle.std.specs.List.{Any, join_with_byte, list_all}
 use Rattle.std.proofs.lemmas.Bool.{false≢true}
 use Rattle.std.proofs.lemmas.List.{take_all}
 use Rattle.std.proofs.lemmas.Option.{get_or_from_slice_get, slice_get_cases}
-use Rattle.mo_image.specs.Entry.{Entry, original, translation}
-use Rattle.mo_image.specs.MoFile.{header, header_len, pairs, pool, spelling, with_nul}
+use Rattle.mo_image.specs.Entry.{Entry, translation}
+use Rattle.mo_image.specs.MoFile.{pool, with_nul}
 use Rattle.po_checks.proofs.Checking.{none_take}
 use Rattle.po_checks.proofs.FirstLines.{any_cases, any_none}
 use Rattle.c_macros.specs.MacroSplits.{is_macro, IsSplitAt}
@@ -52,28 +52,16 @@ forms_lack (f ∷ g ∷ fs) none a = elim (any_cases HasFlag f (g ∷ fs) a) [
       (later (0 ∷ []) (join_with_byte 0 (g ∷ fs)) (later f (0 ∷ join_with_byte 0 (g ∷ fs)) none)) b
 ]
 
--- ---- a file
+-- ---- all entries
 
-pool_lacks : (m : List Entry) → may_have_flag (pool (map translation m)) ≡ false → SomeHasFlag m → ⊥
-pool_lacks [] none a = any_none FormHasFlag a
-pool_lacks (e ∷ m) none a =
+pub translations_lack : (m : List Entry) → may_have_flag (pool (map translation m)) ≡ false → SomeHasFlag m → ⊥
+translations_lack [] none a = any_none FormHasFlag a
+translations_lack (e ∷ m) none a =
     let rest = pool (map translation m) in
     elim (any_cases FormHasFlag e m a) [
       | inl has ↦ forms_lack e.forms (sooner (translation e) (0 ∷ []) (sooner (with_nul (translation e)) rest none)) has
-      | inr b ↦ pool_lacks m (later (with_nul (translation e)) rest none) b
+      | inr b ↦ translations_lack m (later (with_nul (translation e)) rest none) b
     ]
-
--- what precedes the translations
-abbrev file_front : ℕ → List (List ℕ) → List (List ℕ) → List ℕ
-file_front n originals translations =
-    header n ++ pairs (header_len + 16 * n) originals
-    ++ pairs (header_len + 16 * n + length (pool originals)) translations ++ pool originals
-
-pub file_lacks : (m : List Entry) → may_have_flag (spelling m) ≡ false → SomeHasFlag m → ⊥
-unfolding spelling
-file_lacks m none a =
-    let front = file_front (length m) (map original m) (map translation m) in
-    pool_lacks m (later front (pool (map translation m)) none) a
 
 -- ---- one after another
 

@@ -7,3 +7,4 @@ mod Flags
 mod FlagBytes
 mod FlagDirectives
 mod FlagMaps
+mod FlagFiles

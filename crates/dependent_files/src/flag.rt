@@ -1,13 +1,17 @@
 //! Whether a translation has a directive with the flag `I`.
-ghost use Rattle.std.specs.Prelude.{◌≡◌, ◌↔◌, ◌⊎◌, IfOk, IsTrue, not};
+ghost use Rattle.std.specs.Prelude.{◌≡◌, ◌↔◌, ◌⊎◌, IfOk, IsTrue, map, not};
 ghost use Rattle.std.specs.List.{list_all, prefix_len};
+ghost use Rattle.mo_image.specs.Entry.{translation};
+ghost use Rattle.mo_image.specs.MoFile.{pool};
 ghost use Rattle.c_macros.specs.MacroSplits.{is_macro};
 ghost use Rattle.dependent_files.specs.DigitsFlag.{FormHasFlag, HasFlag, SomeHasFlag};
 ghost use Rattle.dependent_files.specs.FlagScanning as spec;
 
+use byteorder::{ByteOrder, LittleEndian};
 use c_macros::{Side, Split, splits};
 use catalogue::{Catalogue, EntryRef};
 use format_arguments::next_directive;
+use mo_image::{HEADER_LEN, ROW_LEN};
 use std::alloc::{AllocError, Global};
 
 /// Whether a byte can stand between the `%` of a directive and the flag, or is the flag.
@@ -49,6 +53,20 @@ fn may_have_flag(text: &[u8]) -> bool
     false
 }
 
+/// The translations as they lie in the MO file of a catalogue: the string that the first row of their table names, and
+/// all behind it.
+fn translations(catalogue: &Catalogue) -> &[u8]
+    ensures { result.now ≡ pool (map translation catalogue.now) }
+{
+    if catalogue.is_empty() {
+        return &[];
+    }
+    let file = catalogue.file();
+    let first_row = HEADER_LEN + ROW_LEN * catalogue.len();
+    let start = LittleEndian::read_u32(&file[first_row + 4..]) as usize;
+    &file[start..]
+}
+
 fn are_macros(parts: &[Split]) -> bool
     ensures { result ≡ list_all is_macro parts.now }
 {
@@ -81,11 +99,11 @@ fn entry_has_flag(alloc: Global, entry: &EntryRef<'_>) -> Result<bool, AllocErro
 /// Whether some translation of a catalogue is a C format that has the flag `I` in a directive, at which GNU msgfmt
 /// splits it where the message is flagged `c-format`. The only error is a failed allocation.
 ///
-/// Most catalogues have no such bytes at all, and then it is one pass over the `%` of their MO file.
+/// Most catalogues have no such bytes at all, and then it is one pass over the `%` of their translations.
 pub fn has_digits_flag(alloc: Global, catalogue: &Catalogue) -> Result<bool, AllocError>
     ensures { IfOk result (λ has. IsTrue has ↔ SomeHasFlag catalogue.now) }
 {
-    if !may_have_flag(catalogue.file()) {
+    if !may_have_flag(translations(catalogue)) {
         return Ok(false);
     }
     'entries: for i in 0..catalogue.len() {

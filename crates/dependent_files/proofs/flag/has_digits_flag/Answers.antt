@@ -1,17 +1,18 @@
-use Rattle.std.proofs.Common.{◌≡◌, false, true, sym, subst, ◌∙◌, arith}
-use Rattle.mo_image.specs.MoFile.{spelling}
+use Rattle.std.proofs.Common.{◌≡◌, false, true, map, sym, subst, ◌∙◌, arith}
+use Rattle.mo_image.specs.Entry.{translation}
+use Rattle.mo_image.specs.MoFile.{pool}
 use Rattle.dependent_files.specs.DigitsFlag.{FormHasFlag, SomeHasFlag}
 use Rattle.dependent_files.specs.FlagScanning.{may_have_flag}
-use Rattle.dependent_files.proofs.FlagMaps.{file_lacks, found_is, none_at_all, none_is, one_more}
+use Rattle.dependent_files.proofs.FlagMaps.{found_is, none_at_all, none_is, one_more, translations_lack}
 use Rattle.dependent_files.proofs.flag.has_digits_flag.Goals as goal
 
 pub returns-then-not-may_have_flag : goal.returns-then-not-may_have_flag
 returns-then-not-may_have_flag c =
     let m = c.args.catalogue.now in
     let no : c.may_have_flag.result ≡ false = cc c.if-not-may_have_flag.true in
-    let none : may_have_flag (spelling m) ≡ false =
-    subst (λ t. may_have_flag t ≡ false) c.file.ensures.file (sym c.may_have_flag.ensures ∙ no) in
-    none_is (SomeHasFlag m) (file_lacks m none)
+    let none : may_have_flag (pool (map translation m)) ≡ false =
+    subst (λ t. may_have_flag t ≡ false) c.translations.ensures (sym c.may_have_flag.ensures ∙ no) in
+    none_is (SomeHasFlag m) (translations_lack m none)
 
 pub returns-then-branch : goal.returns-then-branch
 returns-then-branch c =
