@@ -1,6 +1,7 @@
-"""Compares the specifications of crates/charsets and crates/charset_rows with iconv of GNU libc: each byte of each
+"""Compares the specifications of crates/charsets and of the crates of rows with iconv of GNU libc: each byte of each
 charset and each of its names, and each two bytes of the charsets that have characters of several bytes. Of EUC-JP also
-each three bytes that begin with 8F, and of all of these some texts at random.
+each three bytes that begin with 8F, and of all of these some texts at random. And compares what tools/make_charsets
+writes with what is committed.
 
 usage: tests/driver/charsets.py    at the top of the repository
 """
@@ -9,10 +10,11 @@ import random
 import re
 import subprocess
 import sys
+import tempfile
 from pathlib import Path
 
 SPECS = Path("crates/charsets/specs")
-ROWS_SPECS = Path("crates/charset_rows/specs")
+ROWS_SPECS = [Path("crates") / crate / "specs" for crate in ("euc_rows", "big5_rows", "gb_rows")]
 CASES = re.compile(r"^(?P<word>names|table) (?P<variant>\w+) =(?P<value>.*?)(?=^(?:names|table) |\Z)", re.M | re.S)
 TABLE = re.compile(r"^(?P<name>\w+) =\n(?P<rows>(?: +0x.*\n)+)", re.M)
 PAIRS = re.compile(r"^pairs (?P<variant>\w+) first = (?P<grid>\w+) first$", re.M)
@@ -23,6 +25,7 @@ TERM = re.compile(r'codes "((?:[^"\\]|\\.)*)"|replicate (\d+) 0|(∷)')
 CHAR = re.compile(r"\\u\{([0-9a-f]+)\}|\\(0)|(.)")
 LONGEST = 8  # a text at random
 ROUNDS = 20000
+UNFORMATTED = re.compile(r"[\s,;]|(?<=\\u\{)0+")  # what `rt fmt` changes, but for the case of escapes
 
 
 def cases(path):
@@ -52,7 +55,7 @@ def codes_of(text):
 def rows():
     """The rows of code points, by their names."""
     found = {}
-    for path in ROWS_SPECS.glob("*Rows.antt"):
+    for path in (path for specs in ROWS_SPECS for path in sorted(specs.glob("*Rows.antt"))):
         for listed in ROWS.finditer(path.read_text(encoding="utf-8")):
             found[listed["name"]] = [[]]
             for text, zeros, end in TERM.findall(listed["rows"]):
@@ -66,8 +69,9 @@ def grids():
     """The cells of two bytes that have a character, by the variant; those behind 8F are under None."""
     variants = {pairs["grid"]: pairs["variant"] for pairs in PAIRS.finditer((SPECS / "Pairs.antt").read_text("utf-8"))}
     variants["euc_jp_8f"] = None
-    text, known, found = (ROWS_SPECS / "Grids.antt").read_text(encoding="utf-8"), rows(), {}
-    for case in GRID.finditer(text):
+    texts = [path.read_text(encoding="utf-8") for specs in ROWS_SPECS for path in specs.glob("*Grids.antt")]
+    known, found = rows(), {}
+    for case in (case for text in texts for case in GRID.finditer(text)):
         parts = [(int(row, 16), int(column, 16), known[name]) for row, column, name in CELLS.findall(case["value"])
                  if name in known]
         bounds = [int(bound, 16) for bound in re.findall(r"nat_lt first (\w+)", case["value"])] + [256]
@@ -150,6 +154,30 @@ def wrong_bytes(name, table):
     return [byte for byte in range(256) if ours[byte] != iconv(name, byte)]
 
 
+def unformatted(text):
+    """A text without what `rt fmt` changes in it."""
+    return UNFORMATTED.sub("", text).lower()
+
+
+def is_written(path, made):
+    """Whether a file is what the script has made, as far as `rt fmt` leaves it."""
+    return Path(path).is_file() and unformatted(Path(path).read_text("utf-8")) == unformatted(made)
+
+
+def unlike_files():
+    """The files that tools/make_charsets writes in another way than they are committed, or no longer writes."""
+    with tempfile.TemporaryDirectory() as folder:
+        subprocess.run(["tools/make_charsets", "--into", folder], check=True)
+        made = {str(path.relative_to(folder)): path.read_text("utf-8")
+                for path in Path(folder).rglob("*") if path.is_file()}
+    told = [str(path) for part in ("src", "specs", "proofs") for path in Path("crates").glob("*/%s/**/*" % part)
+            if path.is_file() and "Written by tools/make_charsets" in path.read_text("utf-8")]
+    # (another version of GNU libc may have more names of the same charsets)
+    names = ["crates/charsets/src/names.rt", "crates/charsets/specs/CharsetNames.antt"]
+    return [path for path in sorted({*made, *told} - {*names})
+            if path not in made or not is_written(path, made[path])]
+
+
 def main():
     failures = 0
     found, wide = tables(), grids()
@@ -169,6 +197,10 @@ def main():
             failures += bool(those)
             print(("FAILED" if those else "ok") + " charsets: %s: %s" % (known[0], what)
                   + (": " + " ".join(map(str, those[:40])) if those else ""))
+    unlike = unlike_files()
+    failures += bool(unlike)
+    print(("FAILED" if unlike else "ok") + " charsets: what tools/make_charsets writes is committed"
+          + (": " + " ".join(unlike) if unlike else ""))
     sys.exit(1 if failures or not found or len([cells for cells in wide.values() if cells]) != 6 else 0)
 
 

@@ -6,8 +6,8 @@ use Rattle.charsets.specs.declared.kinds.Charset.TheVariants.{EucJp}
 use Rattle.charsets.specs.declared.reading.DecodeFault.{DecodeFault}
 use Rattle.charsets.specs.declared.reading.DecodeFault.TheVariants.{NoCharacter, Memory}
 use Rattle.charsets.specs.Table.{table}
-use Rattle.charset_rows.specs.Grid.{cell}
-use Rattle.charset_rows.specs.Grids.{euc_jp_8f}
+use Rattle.charset_grid.specs.Grid.{cell}
+use Rattle.euc_rows.specs.EucGrids.{euc_jp_8f}
 use Rattle.charsets.specs.Pairs.{pairs}
 
 -- ---- one character

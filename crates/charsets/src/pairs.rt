@@ -1,11 +1,13 @@
 //! The characters of two bytes in each charset. Written by tools/make_charsets.
 ghost use Rattle.std.specs.Prelude.{◌≡◌};
 ghost use Rattle.std.specs.Char.{IsScalar};
-ghost use Rattle.charset_rows.specs.Grid.{cell};
+ghost use Rattle.charset_grid.specs.Grid.{cell};
 ghost use Rattle.charsets.specs.Pairs.{pairs};
 
 use crate::kinds::Charset;
-use charset_rows::{big5, euc_jp, euc_kr, gb2312, gbk};
+use big5_rows::big5;
+use euc_rows::{euc_jp, euc_kr};
+use gb_rows::{gb2312, gbk};
 
 /// The code point of two bytes, 0 if they are no character.
 pub(crate) fn code_of_two(charset: Charset, first: u8, second: u8) -> u16

@@ -8,7 +8,7 @@ ghost use Rattle.charsets.specs.declared.reading.DecodeFault.TheVariants.{Memory
 use crate::kinds::Charset;
 use crate::pairs::code_of_two;
 use crate::tables::table;
-use charset_rows::euc_jp_8f;
+use euc_rows::euc_jp_8f;
 use std::alloc::{AllocError, Allocator};
 use thiserror::Error;
 

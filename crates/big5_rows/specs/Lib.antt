@@ -1,0 +1,2 @@
+pub mod Big5Rows
+pub mod Big5Grids

@@ -1,9 +1,0 @@
-pub mod EucJpRows
-pub mod EucJp8fRows
-pub mod EucKrRows
-pub mod Big5Rows
-pub mod Gb2312Rows
-pub mod GbkRows
-pub mod Grid
-pub mod Grids
-pub mod GridOf

@@ -1,0 +1,4 @@
+pub mod EucJpRows
+pub mod EucJp8fRows
+pub mod EucKrRows
+pub mod EucGrids

@@ -1,0 +1,3 @@
+pub mod Gb2312Rows
+pub mod GbkRows
+pub mod GbGrids
