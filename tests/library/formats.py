@@ -24,7 +24,7 @@ import ctypes
 import re
 import subprocess
 import sys
-from collections.abc import Iterator
+from collections.abc import Callable, Iterator
 from pathlib import Path
 from tempfile import TemporaryDirectory
 from typing import NamedTuple, Protocol
@@ -130,7 +130,8 @@ class Refusal(ctypes.Structure):
 class Fault(ctypes.Structure):
     """kob_format_fault"""
 
-    _fields_ = [("line", ctypes.c_uint), ("language", ctypes.c_int), ("form", ctypes.c_uint), ("difference", ctypes.c_int)]
+    _fields_ = [("line", ctypes.c_uint), ("language", ctypes.c_int)]
+    _fields_ += [("form", ctypes.c_uint), ("difference", ctypes.c_int)]
 
 
 class Library:
@@ -223,11 +224,10 @@ def compare(judge: Judge, paths: list[Path]) -> bool:
 
 
 def main(words: list[str]) -> int:
-    judges = {"library": Library, "gnu": Gnu}
+    judges: dict[str, Callable[[str], Judge]] = {"library": Library, "gnu": Gnu}
     if len(words) < 3 or words[0] not in judges:
         sys.exit(__doc__)
-    judge: Judge = judges[words[0]](words[1])
-    return 0 if compare(judge, [Path(word) for word in words[2:]]) else 1
+    return 0 if compare(judges[words[0]](words[1]), [Path(word) for word in words[2:]]) else 1
 
 
 if __name__ == "__main__":

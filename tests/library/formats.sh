@@ -1,6 +1,6 @@
 #!/usr/bin/env bash
-# Formats of other languages than C: the rows of tests/library/formats are asked of kob_check_formats in libkobdzila, and
-# of GNU msgfmt (tests/library/formats.py).
+# Formats of other languages than C: asks kob_check_formats of libkobdzila, and GNU msgfmt, about the rows of
+# tests/library/formats (tests/library/formats.py).
 no_program=1
 . "$(dirname "$0")/../lib/common"
 . tests/lib/c_common

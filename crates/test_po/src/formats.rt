@@ -1,5 +1,5 @@
 //! Tests of `c_signature`: each call once, and how lists compare. The formats of the C standard's table are cases of
-//! crates/test_answers.
+//! crates/test_answers, and those of other languages rows of tests/library/formats.
 use c_signature::ArgKind::{Signed, Text, Unsigned};
 use c_signature::Size::Plain;
 use c_signature::{ArgKind, FormatFault, Strictness, agrees, one_outcome, signature};
@@ -36,14 +36,16 @@ fn compares_lists(rt: HostRuntime) {
 #[test]
 fn prints_faults(rt: HostRuntime) -> Result<(), Fail> {
     let printed = format!(in rt.alloc();
-        "{}, {}, {}",
+        "{}, {}, {}; {}, {}",
         FormatFault::Invalid,
         FormatFault::SystemDependent,
-        FormatFault::Memory
+        FormatFault::Memory,
+        format_arguments::FormatFault::Invalid,
+        format_arguments::FormatFault::Memory
     )?;
     assert_eq!(rt;
         printed.as_str(),
-        "invalid format, system-dependent format, out of memory"
+        "invalid format, system-dependent format, out of memory; invalid format, out of memory"
     );
     Ok(())
 }
