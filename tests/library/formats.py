@@ -60,7 +60,7 @@ class Row(NamedTuple):
 class Entry(NamedTuple):
     """A row as an entry of a PO text."""
 
-    row: Row
+    place: str
     line: int  # of its msgstr
     wanted: str
 
@@ -113,10 +113,10 @@ def text_of(language: str, rows: list[Row]) -> tuple[str, list[Entry]]:
     for row in rows:
         lines += [f"#, {language}-format", f'msgctxt "{row.place}"', f'msgid "{row.original}"']
         lines.append(f'msgstr "{row.translation}"')
-        entries.append(Entry(row, len(lines), row.found))
+        entries.append(Entry(row.place, len(lines), row.found))
         lines += ["", f"#, {language}-format", f'msgctxt "{row.place}, plural"', f'msgid "{row.original}"']
         lines += [f'msgid_plural "{row.original}"', f'msgstr[0] "{row.translation}"']
-        entries.append(Entry(row, len(lines), row.few))
+        entries.append(Entry(f"{row.place}, plural", len(lines), row.few))
         lines += [f'msgstr[1] "{row.original}"', ""]
     return "\n".join(lines), entries
 
@@ -198,7 +198,7 @@ def differences(language: str, entries: list[Entry], found: set[Found]) -> list[
     said = []
     for line in sorted({it.line for it in wanted ^ found}):
         got = [f"{it.difference} in msgstr[{it.form}] ({it.language})" for it in found if it.line == line]
-        place = f"{by_line[line].row.place} {by_line[line].wanted}" if line in by_line else f"line {line} no entry"
+        place = f"{by_line[line].place} is {by_line[line].wanted}" if line in by_line else f"line {line} has no row"
         said.append(f"{place}, and not {', '.join(got) or 'ok'}")
     return said
 
@@ -219,7 +219,8 @@ def compare(judge: Judge, paths: list[Path]) -> bool:
             print(f"{word} formats, {judge.name}, {path.stem}: {len(said)} rows differ: {'; '.join(said[:NAMED])}")
         else:
             languages, count = languages + 1, count + len(entries)
-    print(f"ok formats, {judge.name}: {count} entries in {languages} languages")
+    if languages:
+        print(f"ok formats, {judge.name}: {count} entries in {languages} languages")
     return is_well
 
 
