@@ -1,42 +1,15 @@
 -- `kobdzila_set_languages`: the pointer becomes a `&` for the lifetime for which the set is shared,
 -- `places::set_places` lists the places, and they are moved into the caller's memory.
-use Rattle.std.proofs.Common.{ℕ, List, [], ◌∷◌, ◌++◌, refl, ap}
-use base.Fraction.{full_share}
-use base.Logic.{id⊢}
-use base.Fml.{Lft, Share, ftrue, fex, flft}
-use mir.Syntax.{named}
-use mir.Val.{Val, vunit, vptr}
-use prog.Wp.{WpFn}
-use types.Kit.{‵, raw, prop, ◌⊛◌, some, later, ◌$◌, ◌∵◌, !, qed, done, move, drop, use1, use2, split, join, fsplit}
-use types.Kit.{fjoin, fpack, feq_i, pick, await, regoal, suffices, group}
-use types.Run.{enter, of_opd, unit_lit, addr, init, stop, no_more, and_then, assigns, returns}
-use types.ByLocal.{alloc_all, pass_all, free_all, look_at, get, through, sets, lands_as, is}
-use contract.Monad.{fact}
-use contract.Running.{tables}
-use borrow.Table.OneValue.{part_in}
-use denote.Builtin.{u8, SliceRefOf}
-use denote.Exit.{yes}
-use denote.Laws.{Is as At, shows}
-use denote.Memory.{part_at}
-use denote.Opens.{hide}
-use denote.RattleType.{owns}
-use denote.RawPtr.{Ptr, RawPtr, InBlock, block_ptr, ptr_val, block_of, count_of, at_block, in_a_block, room_at}
-use denote.RawPtr.{lies_at, rawptr_vals, rawptr_Tells, rawptr_Lawful}
-use denote.Ref.{Bor}
-use denote.Signature.{plain}
-use denote.Slice.{ShrSlice, shr_slice_vals, shr_slice_Tells, shr_slice_Lawful}
-use denote.Steps.{nothing, heard, peeks}
-use denote.Struct.Lending.{in_block_says}
-use denote.Triple.Call.{calls_at}
-use denote.Triple.Clauses.{Lasts, lasts}
-use denote.Triple.Spec.{triple_of}
-use denote.Triple.Table.{framed}
-use denote.Triple.Walked.{Stays, walk_of, stay_dropped, Goes-dropped, ends_at}
-use Rattle.std.proofs.raw_atomic.Walks.{proved}
+use Rattle.kobdzila_c.proofs.Kit.{List, [], ◌∷◌, ◌++◌, refl, ap, w8, ◌$◌, !, enter, of_opd, unit_lit, addr, init}
+use Rattle.kobdzila_c.proofs.Kit.{stop, no_more, and_then, assigns, returns, alloc_all, pass_all, free_all, look_at}
+use Rattle.kobdzila_c.proofs.Kit.{get, through, sets, lands_as, is, tables, Ptr, block_ptr, ptr_val, at_block}
+use Rattle.kobdzila_c.proofs.Kit.{nothing, heard, triple_of, framed, at, exported, ref_to, ref_vals, calls, Taken}
+use Rattle.kobdzila_c.proofs.Kit.{pointer, slice, front, with_out, stored_all, back, looks_to, gives_to}
 use Rattle.live_set.specs.declared.places.Places.{Places}
+use Rattle.c_sets.specs.NamedPlaces.{AreSetPlaces}
+use Rattle.c_sets.specs.contracts.sets.HeldSet.{the_row as O}
 use Rattle.live_set.specs.contracts.places.Places.{the_row as R}
 use Rattle.live_set.proofs.places.Places.TheLaws.{the_row_laws}
-use Rattle.c_sets.specs.NamedPlaces.{AreSetPlaces}
 use Rattle.kobdzila_c.specs.Shared.{reads_set}
 use Rattle.kobdzila_c.specs.contracts.kobdzila_set_languages as f
 use Rattle.kobdzila_c.proofs.kobdzila_set_languages.Statement.{statement}
@@ -44,106 +17,29 @@ use Rattle.kobdzila_c.proofs.kobdzila_set_languages.Code as code
 use Rattle.c_sets.specs.contracts.set_places as g
 use Rattle.c_sets.proofs.set_places.Met.{met}
 
-abbrev stayed : Stays f.ended.signature.params f.ended.kept
-stayed = (
-  stay_dropped _ yes,
-  (stay_dropped _ yes, (stay_dropped _ yes, (stay_dropped _ yes, tt))),
-)
+abbrev passed : List (Taken 2)
+passed = slice w8 0 tt ∷ slice w8 1 tt ∷ []
+
+abbrev taken : List (Taken 2)
+taken = pointer ∷ passed ++ (pointer ∷ [])
 
 pub kobdzila_set_languages_spec : {M : Type 1} → statement M
 unfolding reads_set
 kobdzila_set_languages_spec 𝓤 𝓛 𝓜 𝓡 wired =
-    let c = f.clauses 𝓛 𝓜.mem 𝓡.returns in let W = walk_of 𝓛 f.ended stayed c in let 𝓣 = tables 𝓤 𝓛.H 𝓜 𝓡 𝓡.env in
-    proved 𝓛 f.ended stayed c 𝓜 𝓡 (
-      Goes-dropped 𝓛 2 (plain (λ _. RawPtr)) yes (λ κs x w. refl),
-      (
-        Goes-dropped 𝓛 2 (SliceRefOf (0 ∷ []) tt (plain (λ _. u8)) (λ _. tt)) yes (λ κs x w. refl),
-        (
-          Goes-dropped 𝓛 2 (SliceRefOf (1 ∷ []) tt (plain (λ _. u8)) (λ _. tt)) yes (λ κs x w. refl),
-          (Goes-dropped 𝓛 2 (plain (λ _. RawPtr)) yes (λ κs x w. refl), tt),
-        ),
-      ),
-    )
-    f.Key.name code.function (code.unfolded 𝓤 𝓛.H 𝓜 𝓡 wired)
-    (λ κs. (rawptr_vals, (shr_slice_vals, (shr_slice_vals, (rawptr_vals, tt)))))
-    (λ κs. (
-      rawptr_Tells,
-      (
-        shr_slice_Tells (named 0) κs.0 u8,
-        (shr_slice_Tells (named 1) κs.1.0 u8, (rawptr_Tells, tt)),
-      ),
-    )) (λ κs qs bounds a gh are.
-    let p : Ptr = a.0 in let domain : Bor (List ℕ) = a.1.0 in let languages : Bor (List ℕ) = a.1.1.0 in
-    let dest : Ptr = a.1.1.1.0 in let μ : Lft = gh.0 in let s : Share = gh.1 in let x = gh.2 in
-    let y : Ptr → W.Ghost = λ r. (
-      (
-        κs,
-        qs,
-        bounds,
-        (p, (domain, (languages, (r, tt)))),
-        (rawptr_vals p, (shr_slice_vals domain, (shr_slice_vals languages, (rawptr_vals r, tt)))),
-      ),
-      gh,
-    ) in
-    let Are = λ (r : Places). AreSetPlaces x domain.now languages.now r in
-    let k0 = ‵ (flft κs.0 qs.0) in let k1 = ‵ (flft κs.1.0 qs.1.0) in
-    qed 𝓛 (((k0 ⊛ (k1 ⊛ ‵ ftrue)) ⊛ ‵ (owns (RawPtr ∷ ShrSlice (named 0) κs.0 u8 ∷ ShrSlice (named 1) κs.1.0 u8
-    ∷ RawPtr ∷ []) a (y dest).0.4)) ∷ (‵ (reads_set μ s p x) ⊛ ‵ (room_at R dest)) ∷ []) ∵
-    split ! $ move ! (1 ∷ []) $ fsplit ! $ drop ! $ fsplit ! $ move ! (1 ∷ []) $ fsplit ! $ move ! (1 ∷ []) $ drop ! $
-    -- [the list; the domain; the tokens; the requires]
-    move ! (3 ∷ []) $ split ! $ fsplit ! $ fsplit ! $ use1 𝓛 (raw (fact 𝓤 (InBlock p))) (in_block_says 𝓛 p) $
-    heard ! (InBlock p) (λ inb. hide ! $
-    -- [the set; the token of μ; the room; the arguments; the tokens]
-    move ! (2 ∷ []) $ in_a_block ! dest (λ r. room_at R r) (id⊢ 𝓤 _) (λ b o e.
-    regoal ! (λ r. prop (WpFn 𝓤 𝓛.H 𝓣.C 𝓣.Λ code.function (rawptr_vals p ++ (shr_slice_vals domain ++
-    (shr_slice_vals languages ++ (rawptr_vals r ++ [])))) (W.post (y r)))) e refl $
-    enter ! _ _ _ _ _ $ alloc_all ! (λ l. pass_all ! refl (
-      ((rawptr_Lawful 𝓛).typed p _ refl).0,
-      (
-        ((shr_slice_Lawful 𝓛 (named 0) κs.0 u8).typed domain _ are.1.0).0,
-        (
-          ((shr_slice_Lawful 𝓛 (named 1) κs.1.0 u8).typed languages _ are.1.1.0).0,
-          ((tt, tt), tt),
-        ),
-      ),
-    ) $
-    -- [the room; the set; the token of μ; the arguments; the tokens]
-    sets ! (is ! (of_opd ! (get ! refl)) (ap ptr_val (at_block p inb))) refl (tt, tt) $
+    let c = f.clauses 𝓛 𝓜.mem 𝓡.returns in let e = code.function in
+    exported 𝓛 taken [] back c 𝓜 𝓡 e f.Key.name (code.unfolded 𝓤 𝓛.H 𝓜 𝓡 wired) (λ κs qs bounds a gh typed.
+    let p = a.0 in let r = front κs passed a.1 in let μ = gh.0 in let s = gh.1 in let x = gh.2 in
+    let Has = λ (t : Places). AreSetPlaces x r.0.now r.1.0.now t in
+    let y = λ (t : Ptr). at 𝓛 taken [] back c κs qs bounds (p, with_out κs passed r t) gh in
+    looks_to 𝓛 passed c 𝓜 𝓡 e κs qs a y O R x refl typed (λ in_block b o typed.
+    enter ! _ _ _ _ _ $ alloc_all ! (λ l. pass_all ! refl typed $
+    sets ! (is ! (of_opd ! (get ! refl)) (ap ptr_val (at_block p in_block))) refl (tt, tt) $
     sets ! (addr ! (through ! refl (stop !))) refl (tt, tt) $
-    let G = triple_of 𝓛 g.signature (g.spec 𝓛 𝓜.mem 𝓡.returns) in let at : Val = vptr (block_of p) (count_of p) in
-    let z : G.Ghost = (
-      (
-        (μ, (κs.0, (κs.1.0, tt))),
-        (s, (qs.0, (qs.1.0, tt))),
-        tt,
-        (record { ref_ptr = (block_of p, count_of p); now = x }, (domain, (languages, tt))),
-        (at ∷ [], (shr_slice_vals domain, (shr_slice_vals languages, tt))),
-      ),
-      tt,
-    ) in
-    move ! (1 ∷ []) $ feq_i ! (List Val) (at ∷ []) (at ∷ []) refl $ fjoin ! $ nothing ! $ move ! (4 ∷ 0 ∷ []) $
-    fjoin ! $ move ! (4 ∷ 0 ∷ []) $ fjoin ! $ move ! (1 ∷ 0 ∷ []) $ fjoin ! $
-    move ! (2 ∷ 3 ∷ []) $ join ! $ join ! $ nothing ! $ move ! (1 ∷ 0 ∷ []) $ join ! $
-    use1 𝓛 (raw (G.pre z)) (id⊢ 𝓤 _) $
-    calls_at ! (framed 𝓤 𝓛.H 𝓜 𝓣) G (met 𝓤 𝓛 𝓜 𝓡 (code.calls-c_sets::set_places 𝓡.env wired)) z
-    (and_then ! (get ! refl) (and_then ! (get ! refl) (and_then ! (get ! refl) (no_more !)))) (λ v.
-    use1 𝓛 (later (some (λ (r : Places). ((‵ (flft μ s) ⊛ (k0 ⊛ (k1 ⊛ ‵ ftrue))) ⊛ ‵ (R.own_val r (v ∷ [])))
-    ⊛ some (λ (ws : Lasts g.ended z.0.0 z.0.3). ‵ (lasts g.ended z.0.0 z.0.3 ws) ⊛ raw (fact 𝓤 (Are r))))))
-    (id⊢ 𝓤 _) $
-    await ! tt $ pick ! (λ r. split ! $ split ! $ move ! (2 ∷ []) $ pick ! (λ ws. split ! $ drop ! $
-    heard ! (Are r) (λ ok. move ! (1 ∷ []) $
-    -- [the places; the tokens; the room]
-    peeks ! R (At R) (shows 𝓛 R) r (v ∷ []) (λ so. let typed = (((the_row_laws).lawful 𝓛).typed r (v ∷ []) so).0 in
-    lands_as ! refl refl typed $
-    assigns ! (of_opd ! (get ! refl)) (through ! refl (stop !)) (init ! 2 refl typed) $
-    sets ! (of_opd ! (unit_lit !)) refl (tt, tt) $
-    returns ! (look_at ! 0 refl) $ free_all ! refl $
-    move ! (2 ∷ 0 ∷ []) $ use2 𝓛 (‵ (part_at R full_share r b o)) (part_in 𝓛 R refl full_share r b o v) $
-    fpack ! (Are r) (λ _. lies_at R full_share (block_ptr b o) r) ok $
-    fpack ! Places (λ r'. fex (Are r') (λ _. lies_at R full_share (block_ptr b o) r')) r $
-    move ! (1 ∷ []) $ split ! $
-    -- [the token of μ; the tokens; what was listed]
-    suffices ! _ (ends_at 𝓛 f.ended stayed c (y (block_ptr b o)) vunit tt (tt, (tt, (tt, (tt, tt))))
-    (tt, (tt, (tt, (tt, tt))))) $
-    feq_i ! (List Val) (vunit ∷ []) (vunit ∷ []) refl $ nothing ! $ nothing ! $ join ! $ nothing ! $ join ! $
-    nothing ! $ join ! $ nothing ! $ join ! $ move ! (3 ∷ []) $ group ! 3 $ done !)))))))))
+    let G = triple_of 𝓛 g.signature (g.spec 𝓛 𝓜.mem 𝓡.returns) in
+    let z : G.Ghost = (((μ, κs), (s, qs), tt, (ref_to p x, r), (ref_vals p, stored_all κs passed r)), tt) in
+    nothing ! $ calls ! (framed 𝓤 𝓛.H 𝓜 (tables 𝓤 𝓛.H 𝓜 𝓡 𝓡.env)) g.ended (g.clauses 𝓛 𝓜.mem 𝓡.returns) (met 𝓤 𝓛 𝓜 𝓡
+    (code.calls-c_sets::set_places 𝓡.env wired)) z ((the_row_laws).lawful 𝓛) refl refl refl (and_then ! (get ! refl)
+    (and_then ! (get ! refl) (and_then ! (get ! refl) (no_more !)))) (λ v t w ok. heard ! (Has t) (λ has.
+    lands_as ! refl refl ok.0 $ assigns ! (of_opd ! (get ! refl)) (through ! refl (stop !)) (init ! 2 refl ok.0) $
+    sets ! (of_opd ! (unit_lit !)) refl (tt, tt) $ returns ! (look_at ! 0 refl) $ free_all ! refl $
+    gives_to 𝓛 taken c (y (block_ptr b o)) R refl Has t has b o refl)))))

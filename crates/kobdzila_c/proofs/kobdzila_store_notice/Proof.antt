@@ -1,104 +1,44 @@
 -- `kobdzila_store_notice`: the pointer becomes a `&` for the lifetime for which the store is shared, and the notice
 -- is stored.
-use Rattle.std.proofs.Common.{List, [], ◌∷◌, ◌++◌, refl, ap}
-use base.Fraction.{full_share}
-use base.Logic.{id⊢}
-use base.Fml.{Lft, Share, ftrue, fex, flft}
-use mir.Val.{Val, vunit, vptr}
-use prog.Wp.{WpFn}
-use types.Kit.{‵, raw, prop, ◌⊛◌, some, later, ◌$◌, ◌∵◌, !, qed, done, move, drop, use1, use2, split, join, fsplit}
-use types.Kit.{fjoin, fpack, feq_i, pick, await, regoal, suffices, group}
-use types.Run.{enter, of_opd, unit_lit, addr, init, stop, no_more, and_then, assigns, returns}
-use types.ByLocal.{alloc_all, pass_all, free_all, look_at, get, through, sets, lands_as, is}
-use contract.Monad.{fact}
-use contract.Running.{tables}
-use borrow.Table.OneValue.{part_in}
-use denote.Exit.{yes}
-use denote.Laws.{Is, shows}
-use denote.Memory.{part_at}
-use denote.Opens.{hide}
-use denote.RattleType.{owns}
-use denote.RawPtr.{Ptr, RawPtr, InBlock, block_ptr, ptr_val, block_of, count_of, at_block, in_a_block, room_at}
-use denote.RawPtr.{rawptr_vals, rawptr_Tells, rawptr_Lawful}
-use denote.Signature.{plain}
-use denote.Steps.{nothing, heard, peeks}
-use denote.Struct.Lending.{in_block_says}
-use denote.Triple.Call.{calls_at}
-use denote.Triple.Clauses.{Lasts, lasts}
-use denote.Triple.Spec.{triple_of}
-use denote.Triple.Table.{framed}
-use denote.Triple.Walked.{Stays, walk_of, stay_dropped, Goes-dropped, ends_at}
-use Rattle.std.proofs.raw_atomic.Walks.{proved}
+use Rattle.kobdzila_c.proofs.Kit.{List, [], ◌∷◌, ◌++◌, refl, ap, ◌$◌, !, enter, of_opd, unit_lit, addr, init, stop}
+use Rattle.kobdzila_c.proofs.Kit.{no_more, and_then, assigns, returns, alloc_all, pass_all, free_all, look_at, get}
+use Rattle.kobdzila_c.proofs.Kit.{through, sets, lands_as, is, tables, Ptr, block_ptr, ptr_val, at_block, nothing}
+use Rattle.kobdzila_c.proofs.Kit.{heard, triple_of, framed, at, exported, ref_to, ref_vals, calls, Taken, pointer}
+use Rattle.kobdzila_c.proofs.Kit.{front, with_out, stored_all, back, looks_to, gives_to}
 use Rattle.c_stores.specs.declared.stores.HeldNotice.{HeldNotice}
+use Rattle.c_stores.specs.Storing.{IsNoticeOf}
+use Rattle.c_stores.specs.contracts.stores.HeldStore.{the_row as O}
 use Rattle.c_stores.specs.contracts.stores.HeldNotice.{the_row as R}
 use Rattle.c_stores.proofs.stores.HeldNotice.TheLaws.{the_row_laws}
-use Rattle.c_stores.specs.Storing.{IsNoticeOf}
-use Rattle.kobdzila_c.specs.Shared.{reads_store, holds_notice}
 use Rattle.kobdzila_c.specs.contracts.kobdzila_store_notice as f
 use Rattle.kobdzila_c.proofs.kobdzila_store_notice.Statement.{statement}
 use Rattle.kobdzila_c.proofs.kobdzila_store_notice.Code as code
 use Rattle.c_stores.specs.contracts.notice as g
 use Rattle.c_stores.proofs.notice.Met.{met}
 
-abbrev stayed : Stays f.ended.signature.params f.ended.kept
-stayed = (stay_dropped _ yes, (stay_dropped _ yes, tt))
+abbrev passed : List (Taken 0)
+passed = []
+
+abbrev taken : List (Taken 0)
+taken = pointer ∷ passed ++ (pointer ∷ [])
 
 pub kobdzila_store_notice_spec : {M : Type 1} → statement M
 kobdzila_store_notice_spec 𝓤 𝓛 𝓜 𝓡 wired =
-    let c = f.clauses 𝓛 𝓜.mem 𝓡.returns in let W = walk_of 𝓛 f.ended stayed c in let 𝓣 = tables 𝓤 𝓛.H 𝓜 𝓡 𝓡.env in
-    proved 𝓛 f.ended stayed c 𝓜 𝓡 (
-      Goes-dropped 𝓛 0 (plain (λ _. RawPtr)) yes (λ κs x w. refl),
-      (Goes-dropped 𝓛 0 (plain (λ _. RawPtr)) yes (λ κs x w. refl), tt),
-    )
-    f.Key.name code.function (code.unfolded 𝓤 𝓛.H 𝓜 𝓡 wired)
-    (λ κs. (rawptr_vals, (rawptr_vals, tt))) (λ κs. (rawptr_Tells, (rawptr_Tells, tt))) (λ κs qs bounds a gh are.
-    let p : Ptr = a.0 in let dest : Ptr = a.1.0 in let μ : Lft = gh.0 in let s : Share = gh.1 in let x = gh.2 in
-    let y : Ptr → W.Ghost = λ r. ((κs, qs, bounds, (p, (r, tt)), (rawptr_vals p, (rawptr_vals r, tt))), gh) in
-    qed 𝓛 ((‵ ftrue ⊛ ‵ (owns (RawPtr ∷ RawPtr ∷ []) a (y dest).0.4)) ∷ (‵ (reads_store μ s p x) ⊛ ‵
-    (room_at R dest)) ∷ []) ∵
-    drop ! $ split ! $ fsplit ! $ fsplit ! $ use1 𝓛 (raw (fact 𝓤 (InBlock p))) (in_block_says 𝓛 p) $
-    heard ! (InBlock p) (λ inb. hide ! $
-    -- [what is shared; the token of μ; the room]
-    move ! (2 ∷ []) $ in_a_block ! dest (λ r. room_at R r) (id⊢ 𝓤 _) (λ b o e.
-    regoal ! (λ r. prop (WpFn 𝓤 𝓛.H 𝓣.C 𝓣.Λ code.function (rawptr_vals p ++ (rawptr_vals r ++ []))
-    (W.post (y r)))) e refl $
-    enter ! _ _ _ _ _ $ alloc_all ! (λ l. pass_all ! refl (((rawptr_Lawful 𝓛).typed p _ refl).0, ((tt, tt), tt)) $
-    -- [the room; what is shared; the token of μ]
+    let c = f.clauses 𝓛 𝓜.mem 𝓡.returns in let e = code.function in
+    exported 𝓛 taken [] back c 𝓜 𝓡 e f.Key.name (code.unfolded 𝓤 𝓛.H 𝓜 𝓡 wired) (λ κs qs bounds a gh typed.
+    let p = a.0 in let r = front κs passed a.1 in let μ = gh.0 in let s = gh.1 in let x = gh.2 in
+    let Has = λ (t : HeldNotice). IsNoticeOf x t in
+    let y = λ (t : Ptr). at 𝓛 taken [] back c κs qs bounds (p, with_out κs passed r t) gh in
+    looks_to 𝓛 passed c 𝓜 𝓡 e κs qs a y O R x refl typed (λ in_block b o typed.
+    enter ! _ _ _ _ _ $ alloc_all ! (λ l. pass_all ! refl typed $
     sets ! (of_opd ! (get ! refl)) refl (tt, tt) $
-    sets ! (is ! (of_opd ! (get ! refl)) (ap ptr_val (at_block p inb))) refl (tt, tt) $
+    sets ! (is ! (of_opd ! (get ! refl)) (ap ptr_val (at_block p in_block))) refl (tt, tt) $
     sets ! (addr ! (through ! refl (stop !))) refl (tt, tt) $
-    let G = triple_of 𝓛 g.signature (g.spec 𝓛 𝓜.mem 𝓡.returns) in let at : Val = vptr (block_of p) (count_of p) in
-    let z : G.Ghost = (
-      (
-        (μ, tt),
-        (s, tt),
-        tt,
-        (record { ref_ptr = (block_of p, count_of p); now = x }, tt),
-        (at ∷ [], tt),
-      ),
-      tt,
-    ) in
-    move ! (1 ∷ []) $ feq_i ! (List Val) (at ∷ []) (at ∷ []) refl $ fjoin ! $ nothing ! $ move ! (1 ∷ 0 ∷ []) $
-    fjoin ! $ nothing ! $ move ! (3 ∷ 0 ∷ []) $ join ! $ join ! $ nothing ! $ move ! (1 ∷ 0 ∷ []) $ join ! $
-    use1 𝓛 (raw (G.pre z)) (id⊢ 𝓤 _) $
-    calls_at ! (framed 𝓤 𝓛.H 𝓜 𝓣) G (met 𝓤 𝓛 𝓜 𝓡 (code.calls-c_stores::notice 𝓡.env wired)) z (and_then !
-    (get ! refl) (no_more !)) (λ v.
-    use1 𝓛 (later (some (λ (r : HeldNotice). ((‵ (flft μ s) ⊛ ‵ ftrue) ⊛ ‵ (R.own_val r (v ∷ []))) ⊛ some (λ (ws :
-    Lasts g.ended z.0.0 z.0.3). ‵ (lasts g.ended z.0.0 z.0.3 ws) ⊛ raw (fact 𝓤 (IsNoticeOf x r)))))) (id⊢ 𝓤
-    _) $
-    await ! tt $ pick ! (λ r. split ! $ split ! $ move ! (2 ∷ []) $ pick ! (λ ws. split ! $ drop ! $
-    heard ! (IsNoticeOf x r) (λ ok. move ! (1 ∷ []) $
-    -- [the answer; the tokens; the room]
-    peeks ! R (Is R) (shows 𝓛 R) r (v ∷ []) (λ so. let typed = (((the_row_laws).lawful 𝓛).typed r (v ∷ [])
-    so).0 in lands_as ! refl refl typed $
-    assigns ! (of_opd ! (get ! refl)) (through ! refl (stop !)) (init ! 2 refl typed) $
-    sets ! (of_opd ! (unit_lit !)) refl (tt, tt) $
-    returns ! (look_at ! 0 refl) $ free_all ! refl $
-    move ! (2 ∷ 0 ∷ []) $ use2 𝓛 (‵ (part_at R full_share r b o)) (part_in 𝓛 R refl full_share r b o v) $
-    fpack ! (IsNoticeOf x r) (λ _. holds_notice (block_ptr b o) r) ok $
-    fpack ! (HeldNotice) (λ r'. fex (IsNoticeOf x r') (λ _. holds_notice (block_ptr b o) r')) r $
-    move ! (1 ∷ []) $ split ! $ move ! (1 ∷ []) $ drop ! $
-    -- [the token of μ; what was answered]
-    suffices ! _ (ends_at 𝓛 f.ended stayed c (y (block_ptr b o)) vunit tt (tt, (tt, tt)) (tt, (tt, tt))) $
-    feq_i ! (List Val) (vunit ∷ []) (vunit ∷ []) refl $ nothing ! $ nothing ! $ join ! $ nothing ! $ join ! $
-    nothing ! $ group ! 3 $ done !)))))))))
+    let G = triple_of 𝓛 g.signature (g.spec 𝓛 𝓜.mem 𝓡.returns) in
+    let z : G.Ghost = (((μ, κs), (s, qs), tt, (ref_to p x, r), (ref_vals p, stored_all κs passed r)), tt) in
+    nothing ! $ calls ! (framed 𝓤 𝓛.H 𝓜 (tables 𝓤 𝓛.H 𝓜 𝓡 𝓡.env)) g.ended (g.clauses 𝓛 𝓜.mem 𝓡.returns) (met 𝓤 𝓛 𝓜 𝓡
+    (code.calls-c_stores::notice 𝓡.env wired)) z ((the_row_laws).lawful 𝓛) refl refl refl (and_then ! (get ! refl)
+    (no_more !)) (λ v t w ok. heard ! (Has t) (λ has.
+    lands_as ! refl refl ok.0 $ assigns ! (of_opd ! (get ! refl)) (through ! refl (stop !)) (init ! 2 refl ok.0) $
+    sets ! (of_opd ! (unit_lit !)) refl (tt, tt) $ returns ! (look_at ! 0 refl) $ free_all ! refl $
+    gives_to 𝓛 taken c (y (block_ptr b o)) R refl Has t has b o refl)))))
