@@ -1,38 +1,16 @@
 -- `kobdzila_reader_enter_after`: the reader is moved out of the caller's memory, `enter_after` makes it enter, and it
 -- is moved back.
-use Rattle.std.proofs.Common.{List, [], ◌∷◌, ◌++◌, refl, ap}
-use base.Fraction.{full_share}
-use base.Logic.{id⊢}
-use base.Fml.{Lft, Share, ftrue, fex, flft, froom, fat}
-use mir.Val.{Val, vunit, vptr}
-use prog.Wp.{WpFn}
-use types.Kit.{‵, raw, prop, ◌⊛◌, some, later, ◌$◌, ◌∵◌, !, qed, done, move, drop, use1, use2, split, join, fsplit}
-use types.Kit.{fjoin, fpack, feq_i, pick, await, regoal, suffices, group}
-use types.Run.{enter, of_opd, unit_lit, addr, init, load, look, stop, no_more, and_then, assigns, returns}
-use types.ByLocal.{alloc_all, pass_all, free_all, look_at, get, through, sets, lands_as, is}
-use contract.Monad.{fact}
-use contract.Running.{tables}
-use borrow.Table.OneValue.{part_in, part_out}
-use denote.Exit.{yes}
-use denote.Laws.{Is, shows}
-use denote.Memory.{part_at, lone}
-use denote.Opens.{hide}
-use denote.RattleType.{owns}
-use denote.RawPtr.{Ptr, RawPtr, InBlock, block_ptr, ptr_val, block_of, count_of, at_block, in_a_block}
-use denote.RawPtr.{rawptr_vals, rawptr_Tells, rawptr_Lawful}
-use denote.Signature.{plain}
-use denote.Steps.{nothing, heard, peeks}
-use denote.Struct.Lending.{in_block_says}
-use denote.Triple.Call.{calls_at}
-use denote.Triple.Clauses.{Lasts, lasts}
-use denote.Triple.Spec.{triple_of}
-use denote.Triple.Table.{framed}
-use denote.Triple.Walked.{Stays, walk_of, stay_dropped, Goes-dropped, ends_at}
-use Rattle.std.proofs.raw_atomic.Walks.{proved}
+use Rattle.kobdzila_c.proofs.Kit.{List, [], ◌∷◌, refl, ap, id⊢, froom, ‵, raw, ◌⊛◌, ◌$◌, !, move, drop, use1, split}
+use Rattle.kobdzila_c.proofs.Kit.{join, fsplit, fjoin, enter, of_opd, unit_lit, addr, init, load, look, stop, no_more}
+use Rattle.kobdzila_c.proofs.Kit.{and_then, assigns, returns, alloc_all, pass_all, free_all, look_at, get, through}
+use Rattle.kobdzila_c.proofs.Kit.{sets, lands_as, is, fact, tables, lone, Ptr, block_ptr, ptr_val, at_block, nothing}
+use Rattle.kobdzila_c.proofs.Kit.{heard, triple_of, framed, at, exported, blocks, ref_to, ref_vals, borrows}
+use Rattle.kobdzila_c.proofs.Kit.{reads_out, calls, Taken, pointer, back, gives_to}
 use Rattle.c_sets.specs.declared.sets.HeldSet.{HeldSet}
+use Rattle.c_stores.specs.Storing.{AreOfOne, IsEnteredAfter}
+use Rattle.c_stores.specs.contracts.stores.HeldNotice.{the_row as O}
 use Rattle.c_sets.specs.contracts.sets.HeldSet.{the_row as R}
 use Rattle.c_sets.proofs.sets.HeldSet.TheLaws.{the_row_laws}
-use Rattle.c_stores.specs.Storing.{AreOfOne, IsEnteredAfter}
 use Rattle.kobdzila_c.specs.Shared.{holds_set, reads_notice}
 use Rattle.kobdzila_c.specs.contracts.kobdzila_reader_enter_after as f
 use Rattle.kobdzila_c.proofs.kobdzila_reader_enter_after.Statement.{statement}
@@ -40,74 +18,37 @@ use Rattle.kobdzila_c.proofs.kobdzila_reader_enter_after.Code as code
 use Rattle.c_stores.specs.contracts.enter_after as g
 use Rattle.c_stores.proofs.enter_after.Met.{met}
 
-abbrev stayed : Stays f.ended.signature.params f.ended.kept
-stayed = (stay_dropped _ yes, (stay_dropped _ yes, tt))
+abbrev taken : List (Taken 0)
+taken = pointer ∷ pointer ∷ []
 
 pub kobdzila_reader_enter_after_spec : {M : Type 1} → statement M
 kobdzila_reader_enter_after_spec 𝓤 𝓛 𝓜 𝓡 wired =
-    let c = f.clauses 𝓛 𝓜.mem 𝓡.returns in let W = walk_of 𝓛 f.ended stayed c in let 𝓣 = tables 𝓤 𝓛.H 𝓜 𝓡 𝓡.env in
-    proved 𝓛 f.ended stayed c 𝓜 𝓡 (
-      Goes-dropped 𝓛 0 (plain (λ _. RawPtr)) yes (λ κs x w. refl),
-      (Goes-dropped 𝓛 0 (plain (λ _. RawPtr)) yes (λ κs x w. refl), tt),
-    )
-    f.Key.name code.function (code.unfolded 𝓤 𝓛.H 𝓜 𝓡 wired)
-    (λ κs. (rawptr_vals, (rawptr_vals, tt))) (λ κs. (rawptr_Tells, (rawptr_Tells, tt))) (λ κs qs bounds a gh are.
-    let q : Ptr = a.1.0 in let x = gh.0 in let μ : Lft = gh.1 in let s : Share = gh.2 in let t = gh.3 in
-    let y : Ptr → W.Ghost = λ r. ((κs, qs, bounds, (r, (q, tt)), (rawptr_vals r, (rawptr_vals q, tt))), gh) in
-    qed 𝓛 ((‵ ftrue ⊛ ‵ (owns (RawPtr ∷ RawPtr ∷ []) a (y a.0).0.4)) ∷ ((‵ (holds_set a.0 x) ⊛ ‵ (reads_notice μ s q
-    t)) ⊛ raw (fact 𝓤 (AreOfOne x t))) ∷ []) ∵
-    drop ! $ split ! $ split ! $ move ! (1 ∷ []) $
-    -- [the notice; the reader; that both are of one store]
-    fsplit ! $ fsplit ! $ use1 𝓛 (raw (fact 𝓤 (InBlock q))) (in_block_says 𝓛 q) $
-    heard ! (InBlock q) (λ inb. hide ! $
-    -- [the notice; the token of μ; the reader; that both are of one store]
-    move ! (2 ∷ []) $ in_a_block ! a.0 (λ r. holds_set r x) (id⊢ 𝓤 _) (λ b o e.
-    regoal ! (λ r. prop (WpFn 𝓤 𝓛.H 𝓣.C 𝓣.Λ code.function (rawptr_vals r ++ (rawptr_vals q ++ [])) (W.post (y r)))) e
-    refl $
-    use1 𝓛 (some (λ (v : Val). ‵ (fat full_share (lone R.mir) b o v) ⊛ ‵ (R.own_val x (v ∷ [])))) (part_out 𝓛 R refl
-    full_share x b o) $ pick ! (λ v. split ! $ move ! (1 ∷ []) $
-    -- [the reader; its memory; the notice; the token of μ; that both are of one store]
-    peeks ! R (Is R) (shows 𝓛 R) x (v ∷ []) (λ so. let typed = (((the_row_laws).lawful 𝓛).typed x (v ∷ []) so).0 in
-    enter ! _ _ _ _ _ $ alloc_all ! (λ l. pass_all ! refl ((tt, tt), (((rawptr_Lawful 𝓛).typed q _ refl).0, tt)) $
-    sets ! (of_opd ! (get ! refl)) refl (tt, tt) $ sets ! (of_opd ! (get ! refl)) refl (tt, tt) $
-    sets ! (of_opd ! (load ! (through ! refl (stop !)) (look ! 1 refl))) refl typed $
-    sets ! (is ! (of_opd ! (get ! refl)) (ap ptr_val (at_block q inb))) refl (tt, tt) $
+    let c = f.clauses 𝓛 𝓜.mem 𝓡.returns in let e = code.function in
+    exported 𝓛 taken [] back c 𝓜 𝓡 e f.Key.name (code.unfolded 𝓤 𝓛.H 𝓜 𝓡 wired) (λ κs qs bounds a gh typed.
+    let q = a.1.0 in let x = gh.0 in let μ = gh.1 in let s = gh.2 in let u = gh.3 in
+    let Has = λ (r : HeldSet). IsEnteredAfter x u r in
+    let y = λ (r : Ptr). at 𝓛 taken [] back c κs qs bounds (r, (q, tt)) gh in
+    use1 𝓛 ((‵ (holds_set a.0 x) ⊛ ‵ (reads_notice μ s q u)) ⊛ raw (fact 𝓤 (AreOfOne x u))) (id⊢ 𝓤 _) $ split ! $
+    split ! $ move ! (1 ∷ []) $ fsplit ! $ borrows ! O q u (λ in_block.
+    -- [the notice; the token of μ; the reader; that both are of one store; the tokens; the arguments]
+    move ! (5 ∷ []) $ drop ! $ nothing ! $ move ! (1 ∷ 0 ∷ []) $ fjoin ! $ move ! (2 ∷ []) $
+    blocks 𝓛 taken [] back c 𝓜 𝓡 e (λ r. holds_set r x) (id⊢ 𝓤 _) y a.0 typed (λ b o typed.
+    reads_out ! R refl ((the_row_laws).lawful 𝓛) x b o (λ v fits.
+    -- [the reader; its memory; the notice; the token of μ; that both are of one store; the tokens]
+    enter ! _ _ _ _ _ $ alloc_all ! (λ l. pass_all ! refl typed $
+    sets ! (of_opd ! (get ! refl)) refl (tt, tt) $
+    sets ! (of_opd ! (get ! refl)) refl (tt, tt) $
+    sets ! (of_opd ! (load ! (through ! refl (stop !)) (look ! 1 refl))) refl fits.0 $
+    sets ! (is ! (of_opd ! (get ! refl)) (ap ptr_val (at_block q in_block))) refl (tt, tt) $
     sets ! (addr ! (through ! refl (stop !))) refl (tt, tt) $
-    let G = triple_of 𝓛 g.signature (g.spec 𝓛 𝓜.mem 𝓡.returns) in let at : Val = vptr (block_of q) (count_of q) in
-    let z : G.Ghost = (
-      (
-        (μ, tt),
-        (s, tt),
-        tt,
-        (x, (record { ref_ptr = (block_of q, count_of q); now = t }, tt)),
-        (v ∷ [], (at ∷ [], tt)),
-      ),
-      tt,
-    ) in
-    move ! (2 ∷ []) $ feq_i ! (List Val) (at ∷ []) (at ∷ []) refl $ fjoin ! $ nothing ! $ move ! (1 ∷ 0 ∷ []) $
-    fjoin ! $ move ! (1 ∷ 0 ∷ []) $ fjoin ! $
-    -- [what it owns; the reader's memory; the token of μ; that both are of one store]
-    nothing ! $ move ! (3 ∷ 0 ∷ []) $ join ! $ join ! $ move ! (0 ∷ 2 ∷ []) $ join ! $
-    use1 𝓛 (raw (G.pre z)) (id⊢ 𝓤 _) $
-    calls_at ! (framed 𝓤 𝓛.H 𝓜 𝓣) G (met 𝓤 𝓛 𝓜 𝓡 (code.calls-c_stores::enter_after 𝓡.env wired)) z
-    (and_then ! (get ! refl) (and_then ! (get ! refl) (no_more !))) (λ w.
-    use1 𝓛 (later (some (λ (r : HeldSet). ((‵ (flft μ s) ⊛ ‵ ftrue) ⊛ ‵ (R.own_val r (w ∷ []))) ⊛ some (λ (ws : Lasts
-    g.ended z.0.0 z.0.3). ‵ (lasts g.ended z.0.0 z.0.3 ws) ⊛ raw (fact 𝓤 (IsEnteredAfter x t r)))))) (id⊢ 𝓤 _) $
-    await ! tt $ pick ! (λ r. split ! $ split ! $ move ! (2 ∷ []) $ pick ! (λ ws. split ! $ drop ! $
-    heard ! (IsEnteredAfter x t r) (λ ok. move ! (2 ∷ []) $
-    use1 𝓛 (‵ (froom (lone R.mir) b o)) (𝓛.laws.at_room (lone R.mir) b o v) $
-    move ! (2 ∷ 1 ∷ []) $
-    -- [what was made; the tokens; its memory]
-    peeks ! R (Is R) (shows 𝓛 R) r (w ∷ []) (λ so'. let typed' = (((the_row_laws).lawful 𝓛).typed r (w ∷ []) so').0 in
-    lands_as ! refl refl typed' $
-    assigns ! (of_opd ! (get ! refl)) (through ! refl (stop !)) (init ! 2 refl typed') $
-    sets ! (of_opd ! (unit_lit !)) refl (tt, tt) $
-    returns ! (look_at ! 0 refl) $ free_all ! refl $
-    move ! (2 ∷ 0 ∷ []) $ use2 𝓛 (‵ (part_at R full_share r b o)) (part_in 𝓛 R refl full_share r b o w) $
-    fpack ! (IsEnteredAfter x t r) (λ _. holds_set (block_ptr b o) r) ok $
-    fpack ! HeldSet (λ r'. fex (IsEnteredAfter x t r') (λ _. holds_set (block_ptr b o) r')) r $
-    move ! (1 ∷ []) $ split ! $ move ! (1 ∷ []) $ drop ! $
-    -- [the token of μ; what was made]
-    suffices ! _ (ends_at 𝓛 f.ended stayed c (y (block_ptr b o)) vunit tt (tt, (tt, tt)) (tt, (tt, tt))) $
-    feq_i ! (List Val) (vunit ∷ []) (vunit ∷ []) refl $ nothing ! $ nothing ! $ join ! $ nothing ! $ join ! $
-    nothing ! $ group ! 3 $ done !)))))))))))
+    let G = triple_of 𝓛 g.signature (g.spec 𝓛 𝓜.mem 𝓡.returns) in
+    let z : G.Ghost = (((μ, κs), (s, qs), tt, (x, (ref_to q u, tt)), (v ∷ [], (ref_vals q, tt))), tt) in
+    move ! (0 ∷ 2 ∷ []) $ fjoin ! $ move ! (2 ∷ 4 ∷ []) $ join ! $ move ! (3 ∷ 0 ∷ 1 ∷ []) $
+    calls ! (framed 𝓤 𝓛.H 𝓜 (tables 𝓤 𝓛.H 𝓜 𝓡 𝓡.env)) g.ended (g.clauses 𝓛 𝓜.mem 𝓡.returns) (met 𝓤 𝓛 𝓜 𝓡
+    (code.calls-c_stores::enter_after 𝓡.env wired)) z ((the_row_laws).lawful 𝓛) refl refl refl (and_then ! (get ! refl)
+    (and_then ! (get ! refl) (no_more !))) (λ w r ws ok. heard ! (Has r) (λ has.
+    -- [what was made; the tokens; the reader's memory]
+    move ! (2 ∷ []) $ use1 𝓛 (‵ (froom (lone R.mir) b o)) (𝓛.laws.at_room (lone R.mir) b o v) $ move ! (1 ∷ 2 ∷ []) $
+    lands_as ! refl refl ok.0 $ assigns ! (of_opd ! (get ! refl)) (through ! refl (stop !)) (init ! 2 refl ok.0) $
+    sets ! (of_opd ! (unit_lit !)) refl (tt, tt) $ returns ! (look_at ! 0 refl) $ free_all ! refl $
+    gives_to 𝓛 taken c (y (block_ptr b o)) R refl Has r has b o refl)))))))

@@ -1,93 +1,47 @@
 -- `kobdzila_reader_leave`: the reader is moved out of the caller's memory, `leave` makes it leave, and it is moved
 -- back.
-use Rattle.std.proofs.Common.{List, [], ◌∷◌, ◌++◌, refl}
-use base.Fraction.{full_share}
-use base.Logic.{id⊢}
-use base.Fml.{ftrue, fex, froom, fat}
-use mir.Val.{Val, vunit}
-use prog.Wp.{WpFn}
-use types.Kit.{‵, raw, prop, ◌⊛◌, some, later, ◌$◌, ◌∵◌, !, qed, done, move, drop, use1, use2, split, join, fsplit}
-use types.Kit.{fjoin, fpack, feq_i, pick, await, regoal, suffices, group}
-use types.Run.{enter, of_opd, unit_lit, init, load, look, stop, no_more, and_then, assigns, returns}
-use types.ByLocal.{alloc_all, pass_all, free_all, look_at, get, through, sets, lands_as}
-use contract.Monad.{fact}
-use contract.Running.{tables}
-use borrow.Table.OneValue.{part_in, part_out}
-use denote.Exit.{yes}
-use denote.Laws.{Is, shows}
-use denote.Memory.{part_at, lone}
-use denote.RattleType.{owns}
-use denote.RawPtr.{Ptr, RawPtr, block_ptr, in_a_block}
-use denote.RawPtr.{rawptr_vals, rawptr_Tells}
-use denote.Signature.{plain}
-use denote.Steps.{nothing, heard, peeks}
-use denote.Triple.Call.{calls_at}
-use denote.Triple.Clauses.{Lasts, lasts}
-use denote.Triple.Spec.{triple_of}
-use denote.Triple.Table.{framed}
-use denote.Triple.Walked.{Stays, walk_of, stay_dropped, Goes-dropped, ends_at}
-use Rattle.std.proofs.raw_atomic.Walks.{proved}
+use Rattle.kobdzila_c.proofs.Kit.{List, [], ◌∷◌, ◌++◌, refl, full_share, id⊢, froom, ‵, ◌$◌, !, move, drop, use1}
+use Rattle.kobdzila_c.proofs.Kit.{fsplit, fjoin, enter, of_opd, unit_lit, init, load, look, stop, no_more, and_then}
+use Rattle.kobdzila_c.proofs.Kit.{assigns, returns, alloc_all, pass_all, free_all, look_at, get, through, sets}
+use Rattle.kobdzila_c.proofs.Kit.{lands_as, tables, lone, Ptr, block_ptr, lies_at, nothing, heard, triple_of, framed}
+use Rattle.kobdzila_c.proofs.Kit.{at, exported, reads_out, calls, Taken, pointer, allocator, front, with_out, back}
+use Rattle.kobdzila_c.proofs.Kit.{points, gives_made, heap_val}
 use Rattle.c_sets.specs.declared.sets.HeldSet.{HeldSet}
+use Rattle.c_stores.specs.Storing.{IsLeft}
 use Rattle.c_sets.specs.contracts.sets.HeldSet.{the_row as R}
 use Rattle.c_sets.proofs.sets.HeldSet.TheLaws.{the_row_laws}
-use Rattle.std_heap.specs.contracts.Global as Heap
-use Rattle.std_heap.proofs.Handle.{heap_val, heap_Tells}
-use Rattle.c_stores.specs.Storing.{IsLeft}
-use Rattle.kobdzila_c.specs.Shared.{holds_set}
 use Rattle.kobdzila_c.specs.contracts.kobdzila_reader_leave as f
 use Rattle.kobdzila_c.proofs.kobdzila_reader_leave.Statement.{statement}
 use Rattle.kobdzila_c.proofs.kobdzila_reader_leave.Code as code
 use Rattle.c_stores.specs.contracts.leave as g
 use Rattle.c_stores.proofs.leave.Met.{met}
 
-abbrev stayed : Stays f.ended.signature.params f.ended.kept
-stayed = (stay_dropped _ yes, (stay_dropped _ yes, tt))
+abbrev passed : List (Taken 0)
+passed = allocator ∷ []
+
+abbrev taken : List (Taken 0)
+taken = passed ++ (pointer ∷ [])
 
 pub kobdzila_reader_leave_spec : {M : Type 1} → statement M
 kobdzila_reader_leave_spec 𝓤 𝓛 𝓜 𝓡 wired =
-    let c = f.clauses 𝓛 𝓜.mem 𝓡.returns in let W = walk_of 𝓛 f.ended stayed c in let 𝓣 = tables 𝓤 𝓛.H 𝓜 𝓡 𝓡.env in
-    proved 𝓛 f.ended stayed c 𝓜 𝓡 (
-      Goes-dropped 𝓛 0 (plain (λ _. Heap.the_row)) yes (λ κs x w. refl),
-      (Goes-dropped 𝓛 0 (plain (λ _. RawPtr)) yes (λ κs x w. refl), tt),
-    )
-    f.Key.name code.function (code.unfolded 𝓤 𝓛.H 𝓜 𝓡 wired)
-    (λ κs. ((λ _. heap_val ∷ []), (rawptr_vals, tt))) (λ κs. (heap_Tells, (rawptr_Tells, tt))) (λ κs qs bounds a x are.
-    let out : Ptr = a.1.0 in
-    let y : Ptr → W.Ghost = λ r. ((κs, qs, bounds, (a.0, (r, tt)), (heap_val ∷ [], (rawptr_vals r, tt))), x) in
-    qed 𝓛 ((‵ ftrue ⊛ ‵ (owns (Heap.the_row ∷ RawPtr ∷ []) a (y out).0.4)) ∷ ‵ (holds_set out x) ∷ []) ∵
-    split ! $ drop ! $ fsplit ! $ move ! (1 ∷ []) $ drop ! $
-    -- [the allocator; the reader]
-    move ! (1 ∷ []) $ in_a_block ! out (λ r. holds_set r x) (id⊢ 𝓤 _) (λ b o e.
-    regoal ! (λ r. prop (WpFn 𝓤 𝓛.H 𝓣.C 𝓣.Λ code.function (heap_val ∷ (rawptr_vals r ++ []))
-    (W.post (y r)))) e refl $
-    use1 𝓛 (some (λ (v : Val). ‵ (fat full_share (lone R.mir) b o v) ⊛ ‵ (R.own_val x (v ∷ [])))) (part_out 𝓛 R refl
-    full_share x b o) $ pick ! (λ v. split ! $ move ! (1 ∷ []) $
-    -- [the reader; its memory; the allocator]
-    peeks ! R (Is R) (shows 𝓛 R) x (v ∷ []) (λ so. let typed = (((the_row_laws).lawful 𝓛).typed x (v ∷ []) so).0 in
-    enter ! _ _ _ _ _ $ alloc_all ! (λ l. pass_all ! refl ((tt, ((tt, tt), tt)), ((tt, tt), tt)) $
-    sets ! (of_opd ! (get ! refl)) refl (tt, tt) $ sets ! (of_opd ! (get ! refl)) refl (tt, tt) $
-    sets ! (of_opd ! (load ! (through ! refl (stop !)) (look ! 1 refl))) refl typed $
+    let c = f.clauses 𝓛 𝓜.mem 𝓡.returns in let e = code.function in
+    exported 𝓛 taken [] back c 𝓜 𝓡 e f.Key.name (code.unfolded 𝓤 𝓛.H 𝓜 𝓡 wired) (λ κs qs bounds a x typed.
+    let r = front κs passed a in let Has = λ (t : HeldSet). IsLeft x t in
+    let y = λ (p : Ptr). at 𝓛 taken [] back c κs qs bounds (with_out κs passed r p) x in
+    points 𝓛 passed c 𝓜 𝓡 e κs qs a y (λ p. lies_at R full_share p x) (id⊢ 𝓤 _) refl typed (λ b o typed.
+    move ! (2 ∷ []) $ reads_out ! R refl ((the_row_laws).lawful 𝓛) x b o (λ v ok.
+    enter ! _ _ _ _ _ $ alloc_all ! (λ l. pass_all ! refl typed $
+    sets ! (of_opd ! (get ! refl)) refl (tt, tt) $
+    sets ! (of_opd ! (get ! refl)) refl (tt, tt) $
+    sets ! (of_opd ! (load ! (through ! refl (stop !)) (look ! 1 refl))) refl ok.0 $
     let G = triple_of 𝓛 g.signature (g.spec 𝓛 𝓜.mem 𝓡.returns) in
-    let z : G.Ghost = ((tt, tt, tt, (a.0, (x, tt)), (heap_val ∷ [], (v ∷ [], tt))), tt) in
-    nothing ! $ move ! (1 ∷ 0 ∷ []) $ fjoin ! $ move ! (2 ∷ 0 ∷ []) $ fjoin ! $ nothing ! $ join ! $
-    nothing ! $ move ! (1 ∷ 0 ∷ []) $ join ! $ use1 𝓛 (raw (G.pre z)) (id⊢ 𝓤 _) $
-    calls_at ! (framed 𝓤 𝓛.H 𝓜 𝓣) G (met 𝓤 𝓛 𝓜 𝓡 (code.calls-c_stores::leave 𝓡.env wired)) z (and_then !
-    (get ! refl) (and_then ! (get ! refl) (no_more !))) (λ w.
-    use1 𝓛 (later (some (λ (r : HeldSet). (‵ ftrue ⊛ ‵ (R.own_val r (w ∷ []))) ⊛ some (λ (ws : Lasts g.ended z.0.0
-    z.0.3). ‵ (lasts g.ended z.0.0 z.0.3 ws) ⊛ raw (fact 𝓤 (IsLeft x r)))))) (id⊢ 𝓤 _) $
-    await ! tt $ pick ! (λ r. split ! $ split ! $ move ! (2 ∷ []) $ pick ! (λ ws. split ! $ drop ! $
-    heard ! (IsLeft x r) (λ ok. move ! (2 ∷ []) $
-    use1 𝓛 (‵ (froom (lone R.mir) b o)) (𝓛.laws.at_room (lone R.mir) b o v) $
-    move ! (2 ∷ 1 ∷ []) $
-    -- [what was made; the tokens; its memory]
-    peeks ! R (Is R) (shows 𝓛 R) r (w ∷ []) (λ so'. let typed' = (((the_row_laws).lawful 𝓛).typed r (w ∷ []) so').0 in
-    lands_as ! refl refl typed' $
-    assigns ! (of_opd ! (get ! refl)) (through ! refl (stop !)) (init ! 2 refl typed') $
-    sets ! (of_opd ! (unit_lit !)) refl (tt, tt) $
-    returns ! (look_at ! 0 refl) $ free_all ! refl $
-    move ! (2 ∷ 0 ∷ []) $ use2 𝓛 (‵ (part_at R full_share r b o)) (part_in 𝓛 R refl full_share r b o w) $
-    fpack ! (IsLeft x r) (λ _. holds_set (block_ptr b o) r) ok $
-    fpack ! HeldSet (λ r'. fex (IsLeft x r') (λ _. holds_set (block_ptr b o) r')) r $
-    suffices ! _ (ends_at 𝓛 f.ended stayed c (y (block_ptr b o)) vunit tt (tt, (tt, tt)) (tt, (tt, tt))) $
-    feq_i ! (List Val) (vunit ∷ []) (vunit ∷ []) refl $ nothing ! $ nothing ! $ join ! $ nothing ! $ join ! $
-    move ! (3 ∷ []) $ group ! 3 $ done !))))))))))
+    let z : G.Ghost = ((κs, qs, tt, (a.0, (x, tt)), (heap_val ∷ [], (v ∷ [], tt))), tt) in
+    nothing ! $ move ! (1 ∷ 0 ∷ []) $ fjoin ! $ move ! (3 ∷ []) $ fsplit ! $ move ! (0 ∷ 2 ∷ []) $ fjoin ! $
+    move ! (1 ∷ []) $ drop ! $ nothing ! $ move ! (0 ∷ 3 ∷ 1 ∷ []) $
+    calls ! (framed 𝓤 𝓛.H 𝓜 (tables 𝓤 𝓛.H 𝓜 𝓡 𝓡.env)) g.ended (g.clauses 𝓛 𝓜.mem 𝓡.returns) (met 𝓤 𝓛 𝓜 𝓡
+    (code.calls-c_stores::leave 𝓡.env wired)) z ((the_row_laws).lawful 𝓛) refl refl refl (and_then ! (get ! refl)
+    (and_then ! (get ! refl) (no_more !))) (λ w t ws ok. heard ! (Has t) (λ has. move ! (2 ∷ []) $
+    use1 𝓛 (‵ (froom (lone R.mir) b o)) (𝓛.laws.at_room (lone R.mir) b o v) $ move ! (1 ∷ 2 ∷ []) $
+    lands_as ! refl refl ok.0 $ assigns ! (of_opd ! (get ! refl)) (through ! refl (stop !)) (init ! 2 refl ok.0) $
+    sets ! (of_opd ! (unit_lit !)) refl (tt, tt) $ returns ! (look_at ! 0 refl) $ free_all ! refl $
+    gives_made 𝓛 taken c (y (block_ptr b o)) R refl Has t has b o refl))))))

@@ -1,250 +1,76 @@
 -- `kobdzila_set_with`: both pointers become a `&` for the lifetimes for which the set and the catalogue are shared,
 -- `with_one` makes the set, and it is moved into the caller's memory.
-use Rattle.std.proofs.Common.{ℕ, List, [], ◌∷◌, ◌++◌, refl, ap}
-use base.Fraction.{full_share}
-use base.Logic.{id⊢}
-use base.Fml.{Lft, Share, ftrue, fex, flft}
-use mir.Syntax.{named}
-use mir.Val.{Val, vunit, vptr}
-use prog.Wp.{WpFn}
-use types.Kit.{‵, raw, prop, ◌⊛◌, some, later, ◌$◌, ◌∵◌, !, qed, done, move, drop, use1, use2, split, join, fsplit}
-use types.Kit.{fjoin, fpack, feq_i, pick, await, regoal, suffices, group}
-use types.Run.{enter, of_opd, unit_lit, addr, init, stop, no_more, and_then, assigns, returns}
-use types.ByLocal.{alloc_all, pass_all, free_all, look_at, get, through, sets, lands_as, is}
-use contract.Monad.{fact}
-use contract.Running.{tables}
-use borrow.Table.OneValue.{part_in}
-use denote.Builtin.{u8, SliceRefOf}
-use denote.Exit.{yes}
-use denote.Laws.{Is as At, shows}
-use denote.Memory.{part_at}
-use denote.Opens.{hide}
-use denote.RattleType.{owns}
-use denote.RawPtr.{Ptr, RawPtr, InBlock, block_ptr, ptr_val, block_of, count_of, at_block, in_a_block, room_at}
-use denote.RawPtr.{rawptr_vals, rawptr_Tells, rawptr_Lawful}
-use denote.Ref.{Bor}
-use denote.Signature.{plain}
-use denote.Slice.{ShrSlice, shr_slice_vals, shr_slice_Tells, shr_slice_Lawful}
-use denote.Steps.{nothing, heard, peeks}
-use denote.Struct.Lending.{in_block_says}
-use denote.Triple.Call.{calls_at}
-use denote.Triple.Clauses.{Lasts, lasts}
-use denote.Triple.Spec.{triple_of}
-use denote.Triple.Table.{framed}
-use denote.Triple.Walked.{Stays, walk_of, stay_dropped, Goes-dropped, ends_at}
-use Rattle.std.proofs.raw_atomic.Walks.{proved}
-use Rattle.std_heap.specs.contracts.Global as Heap
-use Rattle.std_heap.proofs.Handle.{heap_val, heap_Tells}
+use Rattle.kobdzila_c.proofs.Kit.{List, [], ◌∷◌, refl, ap, w8, id⊢, ftrue, flft, ‵, raw, ◌⊛◌, ◌$◌, !, move, drop}
+use Rattle.kobdzila_c.proofs.Kit.{use1, split, join, fsplit, fjoin, enter, of_opd, unit_lit, addr, init, stop}
+use Rattle.kobdzila_c.proofs.Kit.{no_more, and_then, assigns, returns, alloc_all, pass_all, free_all, look_at, get}
+use Rattle.kobdzila_c.proofs.Kit.{through, sets, lands_as, is, tables, Ptr, block_ptr, ptr_val, at_block, room_at}
+use Rattle.kobdzila_c.proofs.Kit.{shr_slice_vals, nothing, heard, alive, triple_of, framed, at, exported, blocks}
+use Rattle.kobdzila_c.proofs.Kit.{ref_to, ref_vals, borrows, written, calls, Taken, pointer, slice, allocator, back}
+use Rattle.kobdzila_c.proofs.Kit.{gives, heap_val}
 use Rattle.c_sets.specs.declared.sets.HeldSet.{HeldSet}
+use Rattle.c_sets.specs.Making.{IsWith}
+use Rattle.c_answers.specs.contracts.opened.Opened.{the_row as O}
 use Rattle.c_sets.specs.contracts.sets.HeldSet.{the_row as R}
 use Rattle.c_sets.proofs.sets.HeldSet.TheLaws.{the_row_laws}
-use Rattle.c_sets.specs.Making.{IsWith}
-use Rattle.kobdzila_c.specs.Shared.{holds_set, reads, reads_set}
+use Rattle.kobdzila_c.specs.Shared.{reads, reads_set}
 use Rattle.kobdzila_c.specs.contracts.kobdzila_set_with as f
 use Rattle.kobdzila_c.proofs.kobdzila_set_with.Statement.{statement}
 use Rattle.kobdzila_c.proofs.kobdzila_set_with.Code as code
 use Rattle.c_sets.specs.contracts.with_one as g
 use Rattle.c_sets.proofs.with_one.Met.{met}
 
-abbrev stayed : Stays f.ended.signature.params f.ended.kept
-stayed = (
-  stay_dropped _ yes,
-  (
-    stay_dropped _ yes,
-    (
-      stay_dropped _ yes,
-      (
-        stay_dropped _ yes,
-        (
-          stay_dropped _ yes,
-          (stay_dropped _ yes, tt),
-        ),
-      ),
-    ),
-  ),
-)
+abbrev taken : List (Taken 2)
+taken = allocator ∷ pointer ∷ slice w8 0 tt ∷ slice w8 1 tt ∷ pointer ∷ pointer ∷ []
 
 pub kobdzila_set_with_spec : {M : Type 1} → statement M
 unfolding reads_set
 kobdzila_set_with_spec 𝓤 𝓛 𝓜 𝓡 wired =
-    let c = f.clauses 𝓛 𝓜.mem 𝓡.returns in let W = walk_of 𝓛 f.ended stayed c in let 𝓣 = tables 𝓤 𝓛.H 𝓜 𝓡 𝓡.env in
-    proved 𝓛 f.ended stayed c 𝓜 𝓡 (
-      Goes-dropped 𝓛 2 (plain (λ _. Heap.the_row)) yes (λ κs x w. refl),
-      (
-        Goes-dropped
-            𝓛 2 (plain (λ _. RawPtr)) yes (λ κs x w. refl),
-        (
-          Goes-dropped 𝓛 2 (SliceRefOf (0 ∷ []) tt (plain (λ _. u8)) (λ
-              _. tt)) yes (λ κs x w. refl),
-          (
-            Goes-dropped 𝓛 2 (SliceRefOf (1 ∷ []) tt (plain (λ _. u8)) (λ _. tt)) yes (λ κs
-                x w. refl),
-            (
-              Goes-dropped 𝓛 2 (plain (λ _. RawPtr)) yes (λ κs x w. refl),
-              (
-                Goes-dropped 𝓛 2 (plain (λ _.
-                    RawPtr)) yes (λ κs x w. refl),
-                tt,
-              ),
-            ),
-          ),
-        ),
-      ),
-    )
-    f.Key.name code.function (code.unfolded 𝓤 𝓛.H 𝓜 𝓡 wired)
-    (λ κs. (
-      (λ _. heap_val ∷ []),
-      (
-        rawptr_vals,
-        (
-          shr_slice_vals,
-          (
-            shr_slice_vals,
-            (
-              rawptr_vals,
-              (
-                rawptr_vals,
-                tt,
-              ),
-            ),
-          ),
-        ),
-      ),
-    ))
-    (λ κs. (
-      heap_Tells,
-      (
-        rawptr_Tells,
-        (
-          shr_slice_Tells (named 0) κs.0 u8,
-          (
-            shr_slice_Tells (named 1) κs.1.0 u8,
-            (rawptr_Tells, (rawptr_Tells, tt)),
-          ),
-        ),
-      ),
-    )) (λ κs qs bounds a gh are.
-    let p : Ptr = a.1.0 in let domain : Bor (List ℕ) = a.1.1.0 in let locale : Bor (List ℕ) = a.1.1.1.0 in
-    let q : Ptr = a.1.1.1.1.0 in let dest : Ptr = a.1.1.1.1.1.0 in
-    let μ : Lft = gh.0 in let s : Share = gh.1 in let x = gh.2 in
-    let ν : Lft = gh.3 in let t : Share = gh.4 in let u = gh.5 in
-    let y : Ptr → W.Ghost = λ r. (
-      (
-        κs,
-        qs,
-        bounds,
-        (a.0, (p, (domain, (locale, (q, (r, tt)))))),
-        (
-          heap_val ∷ [],
-          (
-            rawptr_vals p,
-            (
-              shr_slice_vals domain,
-              (
-                shr_slice_vals locale,
-                (
-                  rawptr_vals q,
-                  (rawptr_vals r, tt),
-                ),
-              ),
-            ),
-          ),
-        ),
-      ),
-      gh,
-    ) in
-    let Is = λ (r : HeldSet). IsWith x domain.now locale.now u r in
+    let c = f.clauses 𝓛 𝓜.mem 𝓡.returns in let e = code.function in
+    exported 𝓛 taken [] back c 𝓜 𝓡 e f.Key.name (code.unfolded 𝓤 𝓛.H 𝓜 𝓡 wired) (λ κs qs bounds a gh typed.
+    let p = a.1.0 in let domain = a.1.1.0 in let locale = a.1.1.1.0 in let q = a.1.1.1.1.0 in
+    let out = a.1.1.1.1.1.0 in let μ = gh.0 in let s = gh.1 in let x = gh.2 in
+    let ν = gh.3 in let t = gh.4 in let u = gh.5 in
+    let Has = λ (r : HeldSet). IsWith x domain.now locale.now u r in
+    let y = λ (r : Ptr). at 𝓛 taken [] back c κs qs bounds (a.0, (p, (domain, (locale, (q, (r, tt)))))) gh in
     let k0 = ‵ (flft κs.0 qs.0) in let k1 = ‵ (flft κs.1.0 qs.1.0) in
-    qed 𝓛 (((k0 ⊛ (k1 ⊛ ‵ ftrue)) ⊛ ‵ (owns (Heap.the_row ∷ RawPtr ∷ ShrSlice (named 0) κs.0 u8
-    ∷ ShrSlice (named 1) κs.1.0 u8 ∷ RawPtr ∷ RawPtr ∷ []) a (y dest).0.4))
-    ∷ ((‵ (reads_set μ s p x) ⊛ ‵ (reads ν t q u)) ⊛ ‵ (room_at R dest)) ∷ []) ∵
-    split ! $ move ! (1 ∷ []) $ fsplit ! $ move ! (1 ∷ []) $ fsplit ! $ drop ! $ fsplit ! $ move ! (1 ∷ []) $
-    fsplit ! $ move ! (1 ∷ []) $ fsplit ! $ drop ! $ drop ! $
-    -- [the locale; the domain; the allocator; the tokens; the requires]
-    move ! (4 ∷ []) $ split ! $ split ! $ fsplit ! $ fsplit ! $
-    use1 𝓛 (raw (fact 𝓤 (InBlock p))) (in_block_says 𝓛 p) $ heard ! (InBlock p) (λ inp. hide ! $
-    move ! (2 ∷ []) $ fsplit ! $ fsplit ! $
-    use1 𝓛 (raw (fact 𝓤 (InBlock q))) (in_block_says 𝓛 q) $ heard ! (InBlock q) (λ inq. hide ! $
-    -- [the catalogue; the token of ν; the set; the token of μ; the room; the other arguments; the tokens]
-    move ! (4 ∷ []) $ in_a_block ! dest (λ r. room_at R r) (id⊢ 𝓤 _) (λ b o e.
-    regoal ! (λ r. prop (WpFn 𝓤 𝓛.H 𝓣.C 𝓣.Λ code.function (heap_val ∷ (rawptr_vals p ++ (shr_slice_vals domain ++
-    (shr_slice_vals locale ++ (rawptr_vals q ++ (rawptr_vals r ++ [])))))) (W.post (y r)))) e refl $
-    enter ! _ _ _ _ _ $ alloc_all ! (λ l. pass_all ! refl (
-      (tt, ((tt, tt), tt)),
-      (
-        ((rawptr_Lawful 𝓛).typed p _
-            refl).0,
-        (
-          ((shr_slice_Lawful 𝓛 (named 0) κs.0 u8).typed domain _ are.1.1.0).0,
-          (
-            ((shr_slice_Lawful 𝓛 (named 1)
-                κs.1.0 u8).typed locale _ are.1.1.1.0).0,
-            (((rawptr_Lawful 𝓛).typed q _ refl).0, ((tt, tt), tt)),
-          ),
-        ),
-      ),
-    ) $
+    use1 𝓛 ((‵ (reads_set μ s p x) ⊛ ‵ (reads ν t q u)) ⊛ ‵ (room_at R out)) (id⊢ 𝓤 _) $ split ! $ split ! $
+    fsplit ! $ borrows ! R p x (λ in_p. move ! (2 ∷ []) $ fsplit ! $ borrows ! O q u (λ in_q.
+    -- [the catalogue; the token of ν; the set; the token of μ; the room; the tokens; the arguments]
+    move ! (6 ∷ []) $ fsplit ! $ move ! (1 ∷ []) $ fsplit ! $ drop ! $ fsplit ! $ move ! (1 ∷ []) $ fsplit ! $
+    move ! (1 ∷ []) $ drop ! $ nothing ! $ move ! (4 ∷ 0 ∷ []) $ fjoin ! $ move ! (1 ∷ 0 ∷ []) $ fjoin ! $
+    move ! (1 ∷ 0 ∷ []) $ fjoin ! $ move ! (3 ∷ 0 ∷ []) $ fjoin ! $ move ! (1 ∷ 0 ∷ []) $ fjoin ! $
+    -- [the arguments; the token of ν; the token of μ; the room; the tokens]
+    move ! (3 ∷ []) $ blocks 𝓛 taken [] back c 𝓜 𝓡 e (λ r. room_at R r) (id⊢ 𝓤 _) y out typed (λ b o typed.
+    move ! (4 ∷ []) $ use1 𝓛 (k0 ⊛ (k1 ⊛ ‵ ftrue)) (id⊢ 𝓤 _) $ split ! $ move ! (1 ∷ []) $ split ! $
+    move ! (5 ∷ 1 ∷ []) $ join ! $ move ! (1 ∷ 0 ∷ []) $ join ! $ move ! (1 ∷ 0 ∷ []) $ join ! $ move ! (3 ∷ 0 ∷ []) $
+    join ! $ move ! (0 ∷ 2 ∷ []) $
+    -- [the tokens; the arguments; the room]
+    enter ! _ _ _ _ _ $ alloc_all ! (λ l. pass_all ! refl typed $
     sets ! (of_opd ! (get ! refl)) refl (tt, tt) $
-    sets ! (is ! (of_opd ! (get ! refl)) (ap ptr_val (at_block p inp))) refl (tt, tt) $
+    sets ! (is ! (of_opd ! (get ! refl)) (ap ptr_val (at_block p in_p))) refl (tt, tt) $
     sets ! (addr ! (through ! refl (stop !))) refl (tt, tt) $
-    sets ! (is ! (of_opd ! (get ! refl)) (ap ptr_val (at_block q inq))) refl (tt, tt) $
+    sets ! (is ! (of_opd ! (get ! refl)) (ap ptr_val (at_block q in_q))) refl (tt, tt) $
     sets ! (addr ! (through ! refl (stop !))) refl (tt, tt) $
     let G = triple_of 𝓛 g.signature (g.spec 𝓛 𝓜.mem 𝓡.returns) in
-    let at_p : Val = vptr (block_of p) (count_of p) in let at_q : Val = vptr (block_of q) (count_of q) in
     let z : G.Ghost = (
       (
         (μ, (κs.0, (κs.1.0, (ν, tt)))),
         (s, (qs.0, (qs.1.0, (t, tt)))),
         tt,
-        (
-          a.0,
-          (
-            record { ref_ptr = (block_of p, count_of p); now = x },
-            (
-              domain,
-              (
-                locale,
-                (record { ref_ptr = (block_of q, count_of q); now = u }, tt),
-              ),
-            ),
-          ),
-        ),
-        (heap_val ∷ [], (at_p ∷ [], (shr_slice_vals domain, (shr_slice_vals locale, (at_q ∷ [], tt))))),
+        (a.0, (ref_to p x, (domain, (locale, (ref_to q u, tt))))),
+        (heap_val ∷ [], (ref_vals p, (shr_slice_vals domain, (shr_slice_vals locale, (ref_vals q, tt))))),
       ),
       tt,
     ) in
-    -- [the room; the catalogue; the token of ν; the set; the token of μ; the other arguments; the tokens]
-    move ! (1 ∷ []) $ feq_i ! (List Val) (at_q ∷ []) (at_q ∷ []) refl $ fjoin ! $ nothing ! $ move ! (1 ∷ 0 ∷ []) $
-    fjoin ! $ move ! (5 ∷ []) $ fjoin ! $ move ! (5 ∷ []) $ fjoin ! $
-    move ! (3 ∷ []) $ feq_i ! (List Val) (at_p ∷ []) (at_p ∷ []) refl $ fjoin ! $ fjoin ! $ move ! (4 ∷ []) $ fjoin
-    ! $
-    -- [what it owns; the room; the token of ν; the token of μ; the tokens]
-    move ! (4 ∷ []) $ split ! $ move ! (1 ∷ []) $ split ! $ move ! (5 ∷ 1 ∷ []) $ join ! $ move ! (1 ∷ []) $ join ! $
-    move ! (1 ∷ []) $ join ! $ move ! (3 ∷ []) $ join ! $ join ! $ nothing ! $ move ! (1 ∷ 0 ∷ []) $ join ! $
-    use1 𝓛 (raw (G.pre z)) (id⊢ 𝓤 _) $
-    calls_at ! (framed 𝓤 𝓛.H 𝓜 𝓣) G (met 𝓤 𝓛 𝓜 𝓡 (code.calls-c_sets::with_one 𝓡.env wired)) z (and_then !
-    (get ! refl) (and_then ! (get ! refl) (and_then ! (get ! refl) (and_then ! (get ! refl) (and_then ! (get ! refl)
-    (no_more !)))))) (λ v.
-    use1 𝓛 (later (some (λ (r : HeldSet). ((‵ (flft μ s) ⊛ (k0 ⊛ (k1 ⊛ (‵ (flft ν t) ⊛ ‵ ftrue)))) ⊛ ‵ (R.own_val r
-    (v ∷ []))) ⊛ some (λ (ws : Lasts g.ended z.0.0 z.0.3). ‵ (lasts g.ended z.0.0 z.0.3 ws) ⊛ raw (fact 𝓤 (Is
-    r)))))) (id⊢ 𝓤 _) $
-    await ! tt $ pick ! (λ r. split ! $ split ! $ move ! (2 ∷ []) $ pick ! (λ ws. split ! $ drop ! $
-    heard ! (Is r) (λ ok. move ! (1 ∷ []) $
-    -- [the set that was made; the tokens; the room]
-    peeks ! R (At R) (shows 𝓛 R) r (v ∷ []) (λ so. let typed = (((the_row_laws).lawful 𝓛).typed r (v ∷ []) so).0 in
-    lands_as ! refl refl typed $
-    assigns ! (of_opd ! (get ! refl)) (through ! refl (stop !)) (init ! 2 refl typed) $
-    sets ! (of_opd ! (unit_lit !)) refl (tt, tt) $
-    returns ! (look_at ! 0 refl) $ free_all ! refl $
-    move ! (2 ∷ 0 ∷ []) $ use2 𝓛 (‵ (part_at R full_share r b o)) (part_in 𝓛 R refl full_share r b o v) $
-    fpack ! (Is r) (λ _. holds_set (block_ptr b o) r) ok $
-    fpack ! HeldSet (λ r'. fex (Is r') (λ _. holds_set (block_ptr b o) r')) r $
-    move ! (1 ∷ []) $ split ! $ move ! (1 ∷ []) $ split ! $ move ! (1 ∷ []) $ split ! $ move ! (1 ∷ []) $ split ! $
+    nothing ! $ calls ! (framed 𝓤 𝓛.H 𝓜 (tables 𝓤 𝓛.H 𝓜 𝓡 𝓡.env)) g.ended (g.clauses 𝓛 𝓜.mem 𝓡.returns) (met 𝓤 𝓛 𝓜 𝓡
+    (code.calls-c_sets::with_one 𝓡.env wired)) z ((the_row_laws).lawful 𝓛) refl refl refl (and_then ! (get ! refl)
+    (and_then ! (get ! refl) (and_then ! (get ! refl) (and_then ! (get ! refl) (and_then ! (get ! refl)
+    (no_more !)))))) (λ v r w ok. heard ! (Has r) (λ has.
+    lands_as ! refl refl ok.0 $ assigns ! (of_opd ! (get ! refl)) (through ! refl (stop !)) (init ! 2 refl ok.0) $
+    sets ! (of_opd ! (unit_lit !)) refl (tt, tt) $ returns ! (look_at ! 0 refl) $ free_all ! refl $
+    move ! (2 ∷ 0 ∷ []) $ written ! R refl Has r has b o $ move ! (1 ∷ []) $ split ! $ move ! (1 ∷ []) $ split ! $
+    move ! (1 ∷ []) $ split ! $ move ! (1 ∷ []) $ split ! $
     -- [the token of ν; nothing; the two tokens; the token of μ; the set]
-    move ! (2 ∷ 1 ∷ []) $ join ! $ move ! (2 ∷ []) $ join ! $ move ! (2 ∷ 1 ∷ []) $ join ! $
-    -- [the tokens of μ and ν; the tokens; the set]
-    suffices ! _ (ends_at 𝓛 f.ended stayed c (y (block_ptr b o)) vunit tt (tt, (tt, (tt, (tt, (tt, (tt, tt))))))
-    (tt, (tt, (tt, (tt, (tt, (tt, tt))))))) $
-    feq_i ! (List Val) (vunit ∷ []) (vunit ∷ []) refl $ nothing ! $ nothing ! $ join ! $ nothing ! $ join ! $
-    nothing ! $ join ! $ nothing ! $ join ! $ nothing ! $ join ! $ nothing ! $ join ! $ move ! (3 ∷ []) $ group ! 3 $
-    done !))))))))))
+    move ! (2 ∷ 1 ∷ []) $ join ! $ move ! (2 ∷ []) $ join ! $ move ! (2 ∷ 1 ∷ []) $ join ! $ move ! (0 ∷ 2 ∷ []) $
+    join ! $ move ! (1 ∷ []) $ use1 𝓛 (raw (alive 𝓛 f.signature κs qs)) (id⊢ 𝓤 _) $
+    gives 𝓛 taken c (y (block_ptr b o)) refl)))))))
