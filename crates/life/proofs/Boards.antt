@@ -1,9 +1,6 @@
 -- A notice on a board is of the store that the board is for.
-use Rattle.std.specs.List.{AllByRecursion}
-use Rattle.std.specs.Prelude.{slice_index_or}
-use Rattle.std.proofs.Common.{◌≡◌, ℕ, List, [], ◌∷◌, ap, sym, ◌∙◌, subst}
+use Rattle.life.proofs.Common.{AllByRecursion, slice_index_or, ◌≡◌, ℕ, List, [], ◌∷◌, ap, sym, ◌∙◌, Client}
 use Rattle.logbook.specs.Pages.{Book}
-use Rattle.life.specs.declared.client.Client.{Client}
 use Rattle.life.specs.Boards.{numbers_of}
 
 one_book : (a b : Book) → numbers_of a ≡ numbers_of b → a ≡ b

@@ -1,20 +1,13 @@
 -- Each call adds to what its publisher or its reader has done.
-use Rattle.std.specs.List.{All, AllZip}
-use Rattle.std.proofs.Common.{◌≡◌, ◌⊎◌, ℕ, suc, ◌+◌, ◌<◌, List, [], ◌∷◌, ◌++◌, map, length, refl, sym, ap, ◌∙◌}
-use Rattle.std.proofs.Common.{subst, arith, append_assoc, inl, inr}
-use Rattle.live_set.specs.Loads.{LoadValue}
-use Rattle.live_versions.specs.Batches.{version_of, StartsWith, published}
-use Rattle.live_versions.specs.Seen.{SeenValue}
-use Rattle.live_versions.specs.Store.{StoreValue}
-use Rattle.live_versions.specs.History.{Event, State, Accept, Refuse, Publish, Enter, Learn, opened, after, state_of}
-use Rattle.live_versions.specs.History.{MayFollow, IsLegal}
-use Rattle.live_loads.proofs.Joining.{begins_refl}
-use Rattle.desks.proofs.Runs.{May, Runs, runs_legal, AreBelow}
-use Rattle.desks.proofs.Learning.{runs_append, state_append}
-use Rattle.life.specs.Acts.{Act, Enters, Learns, IsEntry, IsLearning, Leads, LeadsAll}
-use Rattle.life.specs.Reached.{NoneIsReaders, StoreLists, lists_of, HasWorked, HasActed}
-use Rattle.life.specs.Laws.{OpenReaches, LoadKeeps, LoadMoKeeps, RefusalKeeps, PublishKeeps}
-use Rattle.life.specs.Laws.{EnterKeeps, AskKeeps, AskFaultKeeps, LearnKeeps, SettleKeeps}
+use Rattle.life.proofs.Common.{All, AllZip, ◌≡◌, ◌⊎◌, ℕ, suc, ◌+◌, ◌<◌, List, [], ◌∷◌, ◌++◌, map, length, refl, sym, ap}
+use Rattle.life.proofs.Common.{◌∙◌, subst, arith, append_assoc, inl, inr, ⊎_elim, LoadValue, version_of, StartsWith}
+use Rattle.life.proofs.Common.{published, SeenValue, StoreValue, Event, State, Accept, Refuse, Enter, Learn, opened}
+use Rattle.life.proofs.Common.{after, state_of, MayFollow, IsLegal, begins_refl, May, Runs, runs_legal, AreBelow}
+use Rattle.life.proofs.Common.{runs_append, state_append, Act, Enters, Learns, IsEntry, IsLearning, Leads, LeadsAll}
+use Rattle.life.proofs.Common.{NoneIsReaders, StoreLists, lists_of, HasWorked, HasActed}
+use Rattle.live_versions.specs.History.{Publish}
+use Rattle.life.specs.Laws.{OpenReaches, LoadKeeps, LoadMoKeeps, RefusalKeeps, PublishKeeps, EnterKeeps, AskKeeps}
+use Rattle.life.specs.Laws.{AskFaultKeeps, LearnKeeps, SettleKeeps}
 
 -- ---- a reader
 
@@ -48,21 +41,48 @@ ask_fault_keeps acts old new acted later =
     record { later = later; version_is = refl; texts = tt } in
     leads_snoc [] acts old.batches new.batches (Enters (version_of new.batches) []) acted one
 
-pub same_batches : (new old notice : SeenValue) → (new ≡ old) ⊎ (new ≡ notice)
+same_batches : (new old notice : SeenValue) → (new ≡ old) ⊎ (new ≡ notice)
     → (new.batches ≡ old.batches) ⊎ (new.batches ≡ notice.batches)
 same_batches new old notice (inl is) = inl (ap (λ (x : SeenValue). x.batches) is)
 same_batches new old notice (inr is) = inr (ap (λ (x : SeenValue). x.batches) is)
 
+pub learns : (old new notice : SeenValue) → StartsWith new.batches old.batches × StartsWith new.batches notice.batches
+    → (new ≡ old) ⊎ (new ≡ notice) → IsLearning old.batches (version_of notice.batches) new.batches
+learns old new notice longer one = record {
+  notice = notice.batches;
+  version_is = refl;
+  later = longer.0;
+  told = longer.1;
+  one = same_batches new old notice one;
+}
+
+-- a notice shows nothing new
+pub learns_nothing : (seen notice : List (List LoadValue)) → StartsWith seen notice
+    → IsLearning seen (version_of notice) seen
+learns_nothing seen notice longer =
+    record { notice = notice; version_is = refl; later = begins_refl seen; told = longer; one = inl refl }
+
+-- a notice shows all that was seen, and perhaps more
+pub learns_all : (seen notice : List (List LoadValue)) → StartsWith notice seen
+    → IsLearning seen (version_of notice) notice
+learns_all seen notice longer =
+    record { notice = notice; version_is = refl; later = longer; told = begins_refl notice; one = inr refl }
+
+-- of two beginnings of one list one begins the other
+pub either_begins : (z a b : List (List LoadValue)) → StartsWith z a → StartsWith z b
+    → StartsWith a b ⊎ StartsWith b a
+either_begins z [] b p q = inr (b, refl)
+either_begins z (x ∷ a) [] p q = inl (x ∷ a, refl)
+either_begins [] (x ∷ a) (y ∷ b) p q = absurd (cc (p.1))
+either_begins (w ∷ z) (x ∷ a) (y ∷ b) p q =
+    let heads : x ≡ y = cc (p.1, q.1) in
+    ⊎_elim (λ (r : StartsWith a b). inl (r.0, cc (heads, r.1))) (λ (r : StartsWith b a). inr (r.0, cc (heads, r.1)))
+    (either_begins z a b (p.0, cc (p.1)) (q.0, cc (q.1)))
+
 pub learn_keeps : LearnKeeps
 learn_keeps acts old new notice acted longer one =
-    let act : IsLearning old.batches (version_of notice.batches) new.batches = record {
-      notice = notice.batches;
-      version_is = refl;
-      later = longer.0;
-      told = longer.1;
-      one = same_batches new old notice one;
-    } in
-    leads_snoc [] acts old.batches new.batches (Learns (version_of notice.batches)) acted act
+    leads_snoc [] acts old.batches new.batches (Learns (version_of notice.batches)) acted
+    (learns old new notice longer one)
 
 pub settle_keeps : SettleKeeps
 settle_keeps acts old new notice version acted (is, later, same) =
@@ -86,31 +106,26 @@ own_below [] own = tt
 own_below (Accept load ∷ events) own = (tt, own_below events own)
 own_below (Refuse ∷ events) own = (tt, own_below events own)
 own_below (Publish ∷ events) own = (tt, own_below events own)
-own_below (Enter reader version ∷ events) own = absurd own
-own_below (Learn reader version ∷ events) own = absurd own
+own_below _ own = absurd own
 
 own_append : (a b : List Event) → NoneIsReaders a → NoneIsReaders b → NoneIsReaders (a ++ b)
 own_append [] b p q = q
 own_append (Accept load ∷ a) b p q = own_append a b p q
 own_append (Refuse ∷ a) b p q = own_append a b p q
 own_append (Publish ∷ a) b p q = own_append a b p q
-own_append (Enter reader version ∷ a) b p q = absurd p
-own_append (Learn reader version ∷ a) b p q = absurd p
+own_append _ b p q = absurd p
 
 may_here : (most : ℕ) (first : List Event) (e : Event) (rest : List Event) → NoneIsReaders (e ∷ rest)
     → MayFollow most opened first e → May most (state_of first) e
 may_here most first (Accept load) rest own may = may
-may_here most first Refuse rest own may = tt
-may_here most first Publish rest own may = tt
 may_here most first (Enter reader version) rest own may = absurd own
 may_here most first (Learn reader version) rest own may = absurd own
+may_here most first _ rest own may = tt
 
 own_rest : (e : Event) (rest : List Event) → NoneIsReaders (e ∷ rest) → NoneIsReaders rest
-own_rest (Accept load) rest own = own
-own_rest Refuse rest own = own
-own_rest Publish rest own = own
 own_rest (Enter reader version) rest own = absurd own
 own_rest (Learn reader version) rest own = absurd own
+own_rest _ rest own = own
 
 runs_behind : (most : ℕ) (first rest : List Event) → IsLegal most (first ++ rest) → NoneIsReaders rest
     → Runs most (state_of first) rest
@@ -140,7 +155,8 @@ work_append work more s t worked most own runs batches pending = record {
   pending = pending;
 }
 
-added : (work : List Event) (s t : StoreValue) (load : LoadValue) → HasWorked work (lists_of s)
+-- a load is accepted
+pub added : (work : List Event) (s t : StoreValue) (load : LoadValue) → HasWorked work (lists_of s)
     → version_of s.seen.batches + length s.pending < s.most → t ≡ record s { pending = s.pending ++ load ∷ [] }
     → HasWorked (work ++ Accept load ∷ []) (lists_of t)
 added work s t load worked room is =

@@ -1,19 +1,12 @@
 -- Lists of clients, member by member.
-use Rattle.std.specs.List.{AllZip, AllByRecursion}
-use Rattle.std.proofs.Common.{◌≡◌, ◌<◌, List, [], ◌∷◌, ◌++◌, length, refl, sym, ◌∙◌, subst, inr, arith}
-use Rattle.live_versions.specs.Batches.{version_of, StartsWith}
-use Rattle.live_versions.specs.Seen.{SeenValue}
-use Rattle.live_loads.proofs.Joining.{begins_refl, begins_trans}
+use Rattle.life.proofs.Common.{AllZip, AllByRecursion, ◌≡◌, ◌<◌, List, [], ◌∷◌, ◌++◌, length, refl, sym, ◌∙◌, subst}
+use Rattle.life.proofs.Common.{arith, version_of, StartsWith, SeenValue, begins_refl, begins_trans, Client, Reply, Act}
+use Rattle.life.proofs.Common.{Learns, LeadsAll, HasActed, AreReplies, acts_for, KeepsClient, HasLearnt, HasAnswered}
+use Rattle.life.proofs.Common.{HasSettled, run_acts, seen_by_all, with_run}
 use Rattle.thread_tree.proofs.Halves.{halves_of}
-use Rattle.life.specs.declared.client.Client.{Client}
-use Rattle.life.specs.declared.client.Reply.{Reply}
 use Rattle.life.specs.declared.client.Request.{Request}
-use Rattle.life.specs.Acts.{Act, Learns, IsLearning, LeadsAll}
-use Rattle.life.specs.Reached.{HasActed}
-use Rattle.life.specs.Replies.{AreReplies, acts_for}
-use Rattle.life.specs.Clients.{KeepsClient, HasLearnt, HasAnswered, HasSettled, run_acts, IsServed, seen_by_all}
-use Rattle.life.specs.Continuing.{with_run}
-use Rattle.life.proofs.Calls.{same_batches, leads_append}
+use Rattle.life.specs.Clients.{IsServed}
+use Rattle.life.proofs.Calls.{learns, learns_all, leads_append}
 
 -- ---- what is kept
 
@@ -34,26 +27,23 @@ kept_all (c ∷ cs) = (kept_refl c, kept_all cs)
 pub kept_then : (cs ds es : List Client) → AllZip KeepsClient cs ds → AllZip KeepsClient ds es
     → AllZip KeepsClient cs es
 kept_then [] [] [] h k = tt
-kept_then [] (d ∷ ds) es h k = absurd h
-kept_then (c ∷ cs) [] es h k = absurd h
 kept_then [] [] (e ∷ es) h k = absurd k
 kept_then (c ∷ cs) (d ∷ ds) [] h k = absurd k
 kept_then (c ∷ cs) (d ∷ ds) (e ∷ es) h k = (kept_trans c d e h.0 k.0, kept_then cs ds es h.1 k.1)
+kept_then _ _ es h k = absurd h
 
 pub learnt_kept : (start : SeenValue) (cs ds : List Client) → AllZip (HasLearnt start) cs ds → AllZip KeepsClient cs ds
 learnt_kept start [] [] h = tt
-learnt_kept start [] (d ∷ ds) h = absurd h
-learnt_kept start (c ∷ cs) [] h = absurd h
 learnt_kept start (c ∷ cs) (d ∷ ds) h = (h.0.kept, learnt_kept start cs ds h.1)
+learnt_kept start _ _ h = absurd h
 
 -- the readers are of one book still
 pub kept_book : (f g : SeenValue) (cs ds : List Client) → g.book ≡ f.book
     → AllByRecursion (λ c. c.reader.book ≡ f.book) cs → AllZip KeepsClient cs ds
     → AllByRecursion (λ c. c.reader.book ≡ g.book) ds
 kept_book f g [] [] same all h = tt
-kept_book f g [] (d ∷ ds) same all h = absurd h
-kept_book f g (c ∷ cs) [] same all h = absurd h
 kept_book f g (c ∷ cs) (d ∷ ds) same all h = (h.0.book ∙ all.0 ∙ sym same, kept_book f g cs ds same all.1 h.1)
+kept_book f g _ _ same all h = absurd h
 
 -- ---- halves
 
@@ -80,16 +70,6 @@ settled_alone end = alone_of (HasSettled end)
 
 -- ---- a run
 
-learnt : (start : SeenValue) (c d : Client) → HasLearnt start c d
-    → IsLearning c.reader.batches (version_of start.batches) d.reader.batches
-learnt start c d h = record {
-  notice = start.batches;
-  version_is = refl;
-  later = h.kept.seen;
-  told = h.told;
-  one = same_batches d.reader c.reader start h.one;
-}
-
 -- a client that learnt, was answered, and settled
 served_one : (start end : SeenValue) (c d e f : Client) → HasLearnt start c d → KeepsClient d e → HasAnswered d e
     → HasSettled end e f → IsServed start end c f
@@ -97,25 +77,18 @@ served_one start end c d e f l k a s =
     let requests : d.requests ≡ f.requests = sym (s.requests ∙ k.requests) in
     let replies : e.replies ≡ f.replies = sym s.replies in
     let told : List Act = Learns (version_of end.batches) ∷ [] in
-    let settled : IsLearning e.reader.batches (version_of end.batches) end.batches = record {
-      notice = end.batches;
-      version_is = refl;
-      later = s.later;
-      told = begins_refl end.batches;
-      one = inr refl;
-    } in
     let entered : LeadsAll d.reader.batches (acts_for f.requests.items f.replies.items) e.reader.batches = subst
     (λ (l : List Act). LeadsAll d.reader.batches l e.reader.batches)
     (λ i. acts_for (requests i).items (replies i).items) a.leads in
     let rest : LeadsAll d.reader.batches (acts_for f.requests.items f.replies.items ++ told) end.batches = leads_append
     d.reader.batches (acts_for f.requests.items f.replies.items) e.reader.batches told end.batches entered
-    (end.batches, settled, refl) in
+    (end.batches, learns_all e.reader.batches end.batches s.later, refl) in
     record {
       reader = s.reader;
       requests = s.requests ∙ k.requests ∙ l.kept.requests;
       each = subst (λ (rs : List Request). AreReplies rs f.replies.items) (λ i. (requests i).items)
           (subst (λ (rs : List Reply). AreReplies d.requests.items rs) (λ i. (replies i).items) a.each);
-      leads = (d.reader.batches, learnt start c d l, rest);
+      leads = (d.reader.batches, learns c.reader d.reader start (l.kept.seen, l.told) l.one, rest);
     }
 
 -- all clients
@@ -125,12 +98,11 @@ pub served_all : (start end : SeenValue) (cs ds es fs : List Client) → AllZip 
 served_all start end [] [] [] [] l k a s = tt
 served_all start end (c ∷ cs) (d ∷ ds) (e ∷ es) (f ∷ fs) l k a s =
     (served_one start end c d e f l.0 k.0 a.0 s.0, served_all start end cs ds es fs l.1 k.1 a.1 s.1)
-served_all start end [] (d ∷ ds) es fs l k a s = absurd l
-served_all start end (c ∷ cs) [] es fs l k a s = absurd l
 served_all start end [] [] (e ∷ es) fs l k a s = absurd k
 served_all start end (c ∷ cs) (d ∷ ds) [] fs l k a s = absurd k
 served_all start end [] [] [] (f ∷ fs) l k a s = absurd s
 served_all start end (c ∷ cs) (d ∷ ds) (e ∷ es) [] l k a s = absurd s
+served_all start end _ _ es fs l k a s = absurd l
 
 -- ---- what it adds
 
@@ -146,19 +118,17 @@ pub acted_all : (start end : SeenValue) (acts : List (List Act)) (cs ds : List C
     → AllZip HasActed acts (seen_by_all cs) → AllZip (IsServed start end) cs ds
     → AllZip HasActed (with_run (version_of start.batches) (version_of end.batches) acts ds) (seen_by_all ds)
 acted_all start end [] [] [] acted served = tt
-acted_all start end [] (c ∷ cs) ds acted served = absurd acted
-acted_all start end (a ∷ more) [] ds acted served = absurd acted
 acted_all start end [] [] (d ∷ ds) acted served = absurd served
 acted_all start end (a ∷ more) (c ∷ cs) [] acted served = absurd served
 acted_all start end (a ∷ more) (c ∷ cs) (d ∷ ds) acted served =
     (acted_one start end a c d acted.0 served.0, acted_all start end more cs ds acted.1 served.1)
+acted_all start end _ _ ds acted served = absurd acted
 
 pub settled_all : (start end : SeenValue) (cs ds : List Client) → AllZip (IsServed start end) cs ds
     → AllByRecursion (StartsWith end.batches) (seen_by_all ds)
 settled_all start end [] [] served = tt
-settled_all start end [] (d ∷ ds) served = absurd served
-settled_all start end (c ∷ cs) [] served = absurd served
 settled_all start end (c ∷ cs) (d ∷ ds) served = (
   subst (λ (r : SeenValue). StartsWith end.batches r.batches) (sym served.0.reader) (begins_refl end.batches),
   settled_all start end cs ds served.1,
 )
+settled_all start end _ _ served = absurd served

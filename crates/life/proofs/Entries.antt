@@ -1,33 +1,23 @@
 -- Requests and their replies, one after another.
-use Rattle.std.specs.List.{AllZip}
+use Rattle.life.proofs.Common.{AllZip, get_or, Option, None, Some, ◌≡◌, ◌⊎◌, ℕ, ◌+◌, ◌<◌, List, [], ◌∷◌, ◌++◌, take}
+use Rattle.life.proofs.Common.{length, String, refl, sym, ap, ◌∙◌, subst, append_assoc, ⊎_elim, take_more, append-nil}
+use Rattle.life.proofs.Common.{LoadValue, QueryValue, joined, version_of, StartsWith, SeenValue, Reply, Act, Enters}
+use Rattle.life.proofs.Common.{IsLearning, AreTexts, Leads, LeadsAll, queries_in, AreTextsOf, IsTold, IsReplyTo}
+use Rattle.life.proofs.Common.{AreReplies, looked_up, learning, acts_of_one, acts_for, IsAnswered}
 use Rattle.std.specs.declared.alloc.Global.{Global}
-use Rattle.std.specs.Prelude.{get_or, Option, None, Some}
 use Rattle.std.specs.String.{string_bytes}
-use Rattle.std.proofs.Common.{◌≡◌, ◌⊎◌, ℕ, ◌+◌, ◌<◌, List, [], ◌∷◌, ◌++◌, take, length, String, refl, sym, ap, ◌∙◌}
-use Rattle.std.proofs.Common.{subst, append_assoc, inl, inr}
-use Rattle.std.proofs.lemmas.List.{take_more, append-nil}
 use Rattle.std.proofs.lemmas.Slice.Zip.{all_zipped_more, AllZip-long}
-use Rattle.live_set.specs.Loads.{LoadValue}
-use Rattle.live_set.specs.Asks.{QueryValue}
 use Rattle.live_set.specs.Asks.{IsAnswer as HasText}
-use Rattle.live_versions.specs.Batches.{joined, version_of, StartsWith}
-use Rattle.live_versions.specs.Seen.{SeenValue}
-use Rattle.live_loads.proofs.Joining.{begins_refl}
-use Rattle.life.specs.declared.client.Reply.{Reply}
 use Rattle.life.specs.declared.client.Request.{Request}
-use Rattle.life.specs.Acts.{Act, Enters, IsLearning, AreTexts, Leads, LeadsAll}
-use Rattle.life.specs.Replies.{queries_in, AreTextsOf, IsTold, IsReplyTo, AreReplies, looked_up, learning, acts_of_one}
-use Rattle.life.specs.Replies.{acts_for, IsAnswered}
-use Rattle.life.proofs.Calls.{leads_append, same_batches}
+use Rattle.life.proofs.Calls.{leads_append, learns, learns_nothing, learns_all, either_begins}
 
 -- ---- one entry
 
 texts_are : (loads : List LoadValue) (queries : List QueryValue) (texts : List (String Global))
     → AreTextsOf loads queries texts → AreTexts loads (looked_up queries texts)
 texts_are loads [] [] are = tt
-texts_are loads [] (t ∷ ts) are = absurd are
-texts_are loads (q ∷ qs) [] are = absurd are
 texts_are loads (q ∷ qs) (t ∷ ts) are = (are.0, texts_are loads qs ts are.1)
+texts_are loads _ _ are = absurd are
 
 -- one text more
 pub texts_more : (loads : List LoadValue) (queries : List QueryValue) (i : ℕ) (query : QueryValue)
@@ -85,25 +75,8 @@ pub learnt_answers : (queries : List QueryValue) (old notice told next : SeenVal
     → reply.version ≡ version_of next.batches → AreTextsOf (joined next.batches) queries reply.texts.items
     → IsAnswered queries old.batches next.batches reply
 learnt_answers queries old notice told next reply some longer one later is texts =
-    told_answers queries old.batches told.batches next.batches reply (version_of notice.batches) some (record {
-      notice = notice.batches;
-      version_is = refl;
-      later = longer.0;
-      told = longer.1;
-      one = same_batches told old notice one;
-    }) later is texts
-
--- two beginnings of a list: one begins the other
-either_begins : (a b x y : List (List LoadValue)) → a ++ x ≡ b ++ y → StartsWith a b ⊎ StartsWith b a
-either_begins [] b x y is = inr (b, refl)
-either_begins (p ∷ ps) [] x y is = inl (p ∷ ps, refl)
-either_begins (p ∷ ps) (q ∷ qs) x y is =
-    let head : p ≡ q = cc (is) in
-    let tails : ps ++ x ≡ qs ++ y = cc (is) in
-    both (either_begins ps qs x y tails) head where
-      both : StartsWith ps qs ⊎ StartsWith qs ps → p ≡ q → StartsWith (p ∷ ps) (q ∷ qs) ⊎ StartsWith (q ∷ qs) (p ∷ ps)
-      both (inl (rest, more)) head = inl (rest, λ i. head i ∷ more i)
-      both (inr (rest, more)) head = inr (rest, λ i. sym head i ∷ more i)
+    told_answers queries old.batches told.batches next.batches reply (version_of notice.batches) some
+    (learns old told notice longer one) later is texts
 
 -- `Reader::enter_after` of a snapshot store
 pub entered_answers : (queries : List QueryValue) (old notice next : SeenValue) (reply : Reply)
@@ -111,25 +84,15 @@ pub entered_answers : (queries : List QueryValue) (old notice next : SeenValue) 
     → StartsWith next.batches old.batches → reply.version ≡ version_of next.batches
     → AreTextsOf (joined next.batches) queries reply.texts.items → IsAnswered queries old.batches next.batches reply
 entered_answers queries old notice next reply some entered later is texts =
-    longer (either_begins old.batches notice.batches later.0 entered.0 (sym later.1 ∙ entered.1)) where
-      longer : StartsWith old.batches notice.batches ⊎ StartsWith notice.batches old.batches
-          → IsAnswered queries old.batches next.batches reply
-      longer (inl older) = told_answers queries old.batches old.batches next.batches reply (version_of notice.batches)
-          some (record {
-            notice = notice.batches;
-            version_is = refl;
-            later = begins_refl old.batches;
-            told = older;
-            one = inl refl;
-          }) later is texts
-      longer (inr newer) = told_answers queries old.batches notice.batches next.batches reply
-          (version_of notice.batches) some (record {
-            notice = notice.batches;
-            version_is = refl;
-            later = newer;
-            told = begins_refl notice.batches;
-            one = inr refl;
-          }) entered is texts
+    let version : ℕ = version_of notice.batches in
+    ⊎_elim
+    (λ (older : StartsWith old.batches notice.batches).
+    told_answers queries old.batches old.batches next.batches reply version some
+    (learns_nothing old.batches notice.batches older) later is texts)
+    (λ (newer : StartsWith notice.batches old.batches).
+    told_answers queries old.batches notice.batches next.batches reply version some
+    (learns_all old.batches notice.batches newer) entered is texts)
+    (either_begins next.batches old.batches notice.batches later entered)
 
 -- ---- all requests
 
@@ -138,12 +101,11 @@ acts_more : (requests : List Request) (replies : List Reply) (request : Request)
     → acts_for (requests ++ request ∷ []) (replies ++ reply ∷ [])
     ≡ acts_for requests replies ++ acts_of_one (queries_in request) reply
 acts_more [] [] request reply are = append-nil (acts_of_one (queries_in request) reply)
-acts_more [] (p ∷ ps) request reply are = absurd are
-acts_more (r ∷ rs) [] request reply are = absurd are
 acts_more (r ∷ rs) (p ∷ ps) request reply are =
     let first : List Act = acts_of_one (queries_in r) p in
     ap (λ (l : List Act). first ++ l) (acts_more rs ps request reply are.1)
     ∙ sym (append_assoc first (acts_for rs ps) (acts_of_one (queries_in request) reply))
+acts_more _ _ request reply are = absurd are
 
 -- some first requests are answered
 pub record Replied (first now : List (List LoadValue)) (requests : List Request) (replies : List Reply) : Type 0 where
@@ -152,11 +114,11 @@ pub record Replied (first now : List (List LoadValue)) (requests : List Request)
 
 -- one request more
 pub replied_more : (first now next : List (List LoadValue)) (requests : List Request) (i : ℕ) (request : Request)
-    (replies : List Reply) (reply : Reply) → i < length requests → request ≡ get_or requests i request
+    (replies pushed : List Reply) (reply : Reply) → i < length requests → request ≡ get_or requests i request
     → Replied first now (take i requests) replies → IsTold request reply.learnt
-    → IsAnswered (queries_in request) now next reply
-    → Replied first next (take (i + 1) requests) (replies ++ reply ∷ [])
-replied_more first now next requests i request replies reply below is all told one =
+    → IsAnswered (queries_in request) now next reply → pushed ≡ replies ++ reply ∷ []
+    → Replied first next (take (i + 1) requests) pushed
+replied_more first now next requests i request replies pushed reply below is all told one items =
     let taken : take (i + 1) requests ≡ take i requests ++ request ∷ [] = take_more requests i request below
     ∙ ap (λ x. take i requests ++ x ∷ []) (sym is) in
     let fits : IsReplyTo request reply = record { told = told; texts = one.texts } in
@@ -167,4 +129,5 @@ replied_more first now next requests i request replies reply below is all told o
       leads = subst (λ (l : List Act). LeadsAll first l next) (sym acts)
           (leads_append first (acts_for (take i requests) replies) now mine next all.leads one.leads);
     } in
-    subst (λ (l : List Request). Replied first next l (replies ++ reply ∷ [])) (sym taken) more
+    subst (λ (l : List Reply). Replied first next (take (i + 1) requests) l) (sym items)
+    (subst (λ (l : List Request). Replied first next l (replies ++ reply ∷ [])) (sym taken) more)

@@ -1,17 +1,12 @@
 -- Histories from the opening on, event by event; and what the same events are in two states.
-use Rattle.std.proofs.Common.{◌≡◌, ℕ, ◌+◌, ◌≤◌, ◌<◌, ◌==◌, Bool, true, false, if◌then◌else◌, max, List, [], ◌∷◌}
-use Rattle.std.proofs.Common.{◌++◌, length, refl, sym, ap, ◌∙◌, subst, arith}
+use Rattle.life.proofs.Common.{◌≡◌, ℕ, ◌+◌, ◌≤◌, ◌<◌, ◌==◌, Bool, true, false, if◌then◌else◌, max, List, [], ◌∷◌, ◌++◌}
+use Rattle.life.proofs.Common.{length, refl, sym, ap, ◌∙◌, subst, arith, nat_tests, append-nil, LoadValue, version_of}
+use Rattle.life.proofs.Common.{StartsWith, published, Event, State, Accept, Refuse, Enter, Learn, opened, after}
+use Rattle.life.proofs.Common.{state_from, state_of, WasPublished, MayFollow, IsLegal, IsWhole, begins_refl, begins_nil}
+use Rattle.life.proofs.Common.{version_grows, May, Runs, Level, level_after, grows, Met, Notice, met_in, met}
 use Rattle.std.specs.Prelude.{⊤}
-use Rattle.std.proofs.lemmas.Bool.Decides.{nat_tests}
-use Rattle.std.proofs.lemmas.List.{append-nil}
-use Rattle.live_set.specs.Loads.{LoadValue}
-use Rattle.live_versions.specs.Batches.{version_of, StartsWith, published}
-use Rattle.live_versions.specs.History.{Event, State, Accept, Refuse, Publish, Enter, Learn, opened, after, state_from}
-use Rattle.live_versions.specs.History.{state_of, WasPublished, MayFollow, IsLegal, IsWhole}
-use Rattle.live_loads.proofs.Joining.{begins_refl, begins_nil}
-use Rattle.desks.proofs.Answers.{version_grows}
-use Rattle.desks.proofs.Runs.{May, Runs, Level, level_after, grows}
-use Rattle.life.specs.Life.{Met, Entry, Notice, met_in, met}
+use Rattle.live_versions.specs.History.{Publish}
+use Rattle.life.specs.Life.{Entry}
 
 -- ---- the next batch
 
@@ -37,11 +32,8 @@ next_published fin now front (l ∷ ls) x xs is a b =
 pub next_begins : (s : State) (e : Event) (fin front : List (List LoadValue)) (x : List LoadValue)
     (xs : List (List LoadValue)) → front ≡ s.batches ++ x ∷ xs → StartsWith fin front
     → StartsWith fin (after s e).batches → StartsWith front (after s e).batches
-next_begins s (Accept load) fin front x xs is a b = (x ∷ xs, is)
-next_begins s Refuse fin front x xs is a b = (x ∷ xs, is)
 next_begins s Publish fin front x xs is a b = next_published fin s.batches front s.pending x xs is a b
-next_begins s (Enter reader version) fin front x xs is a b = (x ∷ xs, is)
-next_begins s (Learn reader version) fin front x xs is a b = (x ∷ xs, is)
+next_begins s _ fin front x xs is a b = (x ∷ xs, is)
 
 -- ---- each beginning was published
 
@@ -73,11 +65,10 @@ Goes most s [] = ⊤
 Goes most s (e ∷ events) = Fits most s e × Goes most (after s e) events
 
 may_fit : (most : ℕ) (s : State) (e : Event) → May most s e → Fits most s e
-may_fit most s (Accept load) may = may
 may_fit most s Refuse may = tt
 may_fit most s Publish may = tt
-may_fit most s (Enter reader version) may = may
 may_fit most s (Learn reader version) may = (s.batches, begins_refl s.batches, may)
+may_fit most s _ may = may
 
 pub runs_go : (most : ℕ) (s : State) (events : List Event) → Runs most s events → Goes most s events
 runs_go most s [] runs = tt
@@ -89,12 +80,11 @@ goes_at most s [] e rest goes = goes.0
 goes_at most s (x ∷ first) e rest goes = goes_at most (after s x) first e rest goes.1
 
 fit_follows : (most : ℕ) (first : List Event) (e : Event) → Fits most (state_of first) e → MayFollow most opened first e
-fit_follows most first (Accept load) fit = fit
 fit_follows most first Refuse fit = tt
 fit_follows most first Publish fit = tt
-fit_follows most first (Enter reader version) fit = fit
 fit_follows most first (Learn reader version) (front, begins, is) =
     subst (λ (n : ℕ). WasPublished opened first n) (sym is) (was_from opened first front begins (begins_nil front))
+fit_follows most first _ fit = fit
 
 pub goes_legal : (most : ℕ) (events : List Event) → Goes most opened events → IsLegal most events
 goes_legal most events goes first e rest is = fit_follows most first e
@@ -105,11 +95,10 @@ fit_level most s u (Accept load) same fit =
     let n : version_of s.batches ≡ version_of u.batches = ap version_of same.batches in
     let m : length s.pending ≡ length u.pending = ap length same.pending in
     omega (arith, n, m, fit)
-fit_level most s u Refuse same fit = tt
-fit_level most s u Publish same fit = tt
 fit_level most s u (Enter reader version) same fit = fit ∙ ap version_of same.batches
 fit_level most s u (Learn reader version) same (front, begins, is) =
     (front, subst (λ (l : List (List LoadValue)). StartsWith l front) same.batches begins, is)
+fit_level most s u _ same fit = tt
 
 pub goes_level : (most : ℕ) (s u : State) (events : List Event) → Level s u → Goes most s events → Goes most u events
 goes_level most s u [] same goes = tt
@@ -128,22 +117,18 @@ AreUnder count [] = ⊤
 AreUnder count (e ∷ events) = IsUnder count e × AreUnder count events
 
 pub under_more : (count : ℕ) (e : Event) → IsUnder count e → IsUnder (count + 1) e
-under_more count (Accept load) is = tt
-under_more count Refuse is = tt
-under_more count Publish is = tt
 under_more count (Enter reader version) is = omega (arith, is)
 under_more count (Learn reader version) is = omega (arith, is)
+under_more count _ is = tt
 
 pub not_met_in : (count reader : ℕ) (s : State) (e : Event) → IsUnder count e → count ≤ reader → met_in reader s e ≡ []
-not_met_in count reader s (Accept load) is le = refl
-not_met_in count reader s Refuse is le = refl
-not_met_in count reader s Publish is le = refl
 not_met_in count reader s (Enter other version) is le =
     let no : (reader == other) ≡ false = grind (arith, nat_tests, is, le) in
     ap (λ (b : Bool). if b then Entry s.batches (s.seen reader) ∷ [] else []) no
 not_met_in count reader s (Learn other version) is le =
     let no : (reader == other) ≡ false = grind (arith, nat_tests, is, le) in
     ap (λ (b : Bool). if b then Notice version ∷ [] else []) no
+not_met_in count reader s _ is le = refl
 
 pub not_met : (count reader : ℕ) (s : State) (events : List Event) → AreUnder count events → count ≤ reader
     → met reader s events ≡ []
@@ -154,15 +139,13 @@ not_met count reader s (e ∷ events) under le =
 
 pub seen_after : (count reader : ℕ) (s : State) (e : Event) → IsUnder count e → count ≤ reader
     → (after s e).seen reader ≡ s.seen reader
-seen_after count reader s (Accept load) is le = refl
-seen_after count reader s Refuse is le = refl
-seen_after count reader s Publish is le = refl
 seen_after count reader s (Enter other version) is le =
     let no : (reader == other) ≡ false = grind (arith, nat_tests, is, le) in
     ap (λ (b : Bool). if b then version else s.seen reader) no
 seen_after count reader s (Learn other version) is le =
     let no : (reader == other) ≡ false = grind (arith, nat_tests, is, le) in
     ap (λ (b : Bool). if b then max (s.seen other) version else s.seen reader) no
+seen_after count reader s _ is le = refl
 
 pub seen_from : (count reader : ℕ) (s : State) (events : List Event) → AreUnder count events → count ≤ reader
     → (state_from s events).seen reader ≡ s.seen reader
@@ -177,14 +160,11 @@ pub record Alike (reader : ℕ) (s u : State) : Type 0 where
   pub seen : s.seen reader ≡ u.seen reader
 
 met_alike_in : (reader : ℕ) (s u : State) (e : Event) → Alike reader s u → met_in reader s e ≡ met_in reader u e
-met_alike_in reader s u (Accept load) same = refl
-met_alike_in reader s u Refuse same = refl
-met_alike_in reader s u Publish same = refl
 met_alike_in reader s u (Enter other version) same =
     λ i. if reader == other then Entry (same.level.batches i) (same.seen i) ∷ [] else []
-met_alike_in reader s u (Learn other version) same = refl
+met_alike_in reader s u _ same = refl
 
-by_test : (t : Bool) {P : Type 0} → (t ≡ true → P) → (t ≡ false → P) → P
+pub by_test : (t : Bool) {P : Type 0} → (t ≡ true → P) → (t ≡ false → P) → P
 by_test true yes_ no_ = yes_ refl
 by_test false yes_ no_ = no_ refl
 
@@ -201,10 +181,6 @@ learnt_alike reader other version s u same =
     ∙ (same ∙ sym (ap (λ (b : Bool). if b then max (u.seen other) version else u.seen reader) no_)))
 
 alike_after : (reader : ℕ) (s u : State) (e : Event) → Alike reader s u → Alike reader (after s e) (after u e)
-alike_after reader s u (Accept load) same =
-    record { level = level_after s u (Accept load) same.level; seen = same.seen }
-alike_after reader s u Refuse same = same
-alike_after reader s u Publish same = record { level = level_after s u Publish same.level; seen = same.seen }
 alike_after reader s u (Enter other version) same = record {
   level = level_after s u (Enter other version) same.level;
   seen = λ i. if reader == other then version else same.seen i;
@@ -213,6 +189,7 @@ alike_after reader s u (Learn other version) same = record {
   level = level_after s u (Learn other version) same.level;
   seen = learnt_alike reader other version s u same.seen;
 }
+alike_after reader s u e same = record { level = level_after s u e same.level; seen = same.seen }
 
 pub met_alike : (reader : ℕ) (s u : State) (events : List Event) → Alike reader s u
     → met reader s events ≡ met reader u events

@@ -1,11 +1,9 @@
 -- A query that is looked up in the set of a version is answered from the loads that are published in it.
-use Rattle.std.proofs.Common.{◌≡◌, ℕ, List, subst}
+use Rattle.life.proofs.Common.{◌≡◌, ℕ, List, subst, QueryValue, HasValue, HasAnswer, IsAnswer, answering, key_of}
+use Rattle.life.proofs.Common.{LoadValue, map_of, joined}
 use Rattle.mo_image.specs.Entry.{Entry}
-use Rattle.live_set.specs.Asks.{QueryValue, HasValue, HasAnswer, IsAnswer, answering, key_of}
 use Rattle.live_set.specs.LanguageList.{named}
-use Rattle.live_set.specs.Loads.{LoadValue, map_of}
 use Rattle.live_set.specs.Sets.{SetValue, fold, map_in}
-use Rattle.live_versions.specs.Batches.{joined}
 use Rattle.live_loads.proofs.Looking.{searched}
 use Rattle.snapshot_store.specs.Holding.{IsSetOf}
 

@@ -1,15 +1,9 @@
 -- A store whose readers have settled has one history: the publisher's work, into which each reader's acts are put.
-use Rattle.std.specs.List.{AllZip, AllByRecursion}
-use Rattle.std.proofs.Common.{◌≡◌, ℕ, zero, suc, ◌+◌, ◌<◌, ◌==◌, false, List, [], ◌∷◌, refl, sym, ap, ◌∙◌, subst, arith}
-use Rattle.std.proofs.lemmas.Bool.Decides.{nat_tests}
-use Rattle.live_set.specs.Loads.{LoadValue}
-use Rattle.live_versions.specs.Batches.{version_of, StartsWith}
-use Rattle.live_versions.specs.History.{Event, Accept, Refuse, Publish, Enter, Learn, opened, state_of}
-use Rattle.desks.specs.ServedHistory.{without_entries}
-use Rattle.desks.proofs.Runs.{Level, level_trans, work_all}
-use Rattle.life.specs.Acts.{Act}
-use Rattle.life.specs.Reached.{NoneIsReaders, HasActed}
-use Rattle.life.specs.Life.{Met, met, IsStepOf, acts_of, seen_of}
+use Rattle.life.proofs.Common.{AllZip, AllByRecursion, ◌≡◌, ℕ, zero, suc, ◌+◌, ◌<◌, ◌==◌, false, List, [], ◌∷◌, refl}
+use Rattle.life.proofs.Common.{sym, ap, ◌∙◌, subst, arith, nat_tests, LoadValue, version_of, StartsWith, Event, Accept}
+use Rattle.life.proofs.Common.{Refuse, opened, state_of, without_entries, Level, level_trans, work_all, Act}
+use Rattle.life.proofs.Common.{NoneIsReaders, HasActed, Met, met, IsStepOf, acts_of, seen_of}
+use Rattle.live_versions.specs.History.{Publish}
 use Rattle.life.specs.Laws.{HasOneLife}
 use Rattle.life.proofs.Calls.{own_below, own_runs}
 use Rattle.life.proofs.Histories.{Goes, goes_legal, runs_go, AreUnder, not_met, seen_from}
@@ -20,8 +14,7 @@ own_under [] own = tt
 own_under (Accept load ∷ events) own = (tt, own_under events own)
 own_under (Refuse ∷ events) own = (tt, own_under events own)
 own_under (Publish ∷ events) own = (tt, own_under events own)
-own_under (Enter reader version ∷ events) own = absurd own
-own_under (Learn reader version ∷ events) own = absurd own
+own_under _ own = absurd own
 
 record AllWoven (most first : ℕ) (events : List Event) (acts : List (List Act))
     (readers : List (List (List LoadValue))) : Type 0 where
@@ -50,8 +43,6 @@ weave_all most first events fin [] [] goes under is acted settled = record {
       (sym (not_met first reader opened events under (omega (arith, this)))) tt;
   seen = λ reader worker this. seen_from first reader opened events under (omega (arith, this));
 }
-weave_all most first events fin [] (r ∷ rs) goes under is acted settled = absurd acted
-weave_all most first events fin (a ∷ more) [] goes under is acted settled = absurd acted
 weave_all most first events fin (a ∷ more) (r ∷ rs) goes under is acted settled =
     let one : Woven most first opened events a (version_of r) = weave most first opened events a r fin
     goes under is settled.0 (left_here [] [] a r refl acted.0) in
@@ -104,6 +95,7 @@ weave_all most first events fin (a ∷ more) (r ∷ rs) goes under is acted sett
           rest.others_seen reader (omega (arith, this)) ∙ (ap (λ (k : ℕ). (state_of one.history).seen k) same
           ∙ one.seen)
       seen_is one rest reader (suc worker) this = rest.seen reader worker (omega (arith, this))
+weave_all most first events fin _ _ goes under is acted settled = absurd acted
 
 pub one_life : HasOneLife
 one_life s readers work acts reached settled =

@@ -1,28 +1,19 @@
 -- Commands in turn, and what a run adds to a store's life.
-use Rattle.std.specs.List.{AllZip}
-use Rattle.std.specs.Prelude.{get_or}
-use Rattle.std.proofs.Common.{◌≡◌, ℕ, ◌+◌, ◌<◌, List, [], ◌∷◌, ◌++◌, take, drop, length, refl, sym, ap, ◌∙◌, subst}
-use Rattle.std.proofs.lemmas.List.{take_more, take-append-drop}
-use Rattle.live_set.specs.Loads.{LoadValue}
-use Rattle.live_versions.specs.Batches.{version_of}
-use Rattle.live_versions.specs.Seen.{SeenValue}
-use Rattle.live_versions.specs.Store.{StoreValue}
+use Rattle.life.proofs.Common.{AllZip, get_or, ◌≡◌, ℕ, ◌+◌, ◌<◌, List, [], ◌∷◌, ◌++◌, take, drop, length, refl, sym, ap}
+use Rattle.life.proofs.Common.{◌∙◌, subst, take_more, take-append-drop, LoadValue, version_of, SeenValue, StoreValue}
+use Rattle.life.proofs.Common.{Event, State, Accept, Refuse, opened, state_from, state_of, JobValue, IsRefused}
+use Rattle.life.proofs.Common.{after_publish, Runs, Level, runs_level, level_from, state_append, Client, NoneIsReaders}
+use Rattle.life.proofs.Common.{lists_of, HasWorked, Reached, StopsAfter, store_in, AreCommands, seen_by_all, acts_after}
+use Rattle.life.proofs.Common.{HasLife, StopKeeps}
 use Rattle.live_loads.specs.declared.fault.StoreFault.{StoreFault}
 use Rattle.live_loads.specs.declared.fault.StoreFault.TheVariants as fault
-use Rattle.live_versions.specs.History.{Event, State, Accept, Refuse, opened, state_from, state_of}
 use Rattle.live_versions.specs.History.{Publish as Publishes}
-use Rattle.desks.specs.Jobs.{JobValue, IsRefused, after_publish}
-use Rattle.desks.proofs.Runs.{Runs, Level, runs_level, level_from}
-use Rattle.desks.proofs.Learning.{state_append}
-use Rattle.life.specs.declared.client.Client.{Client}
 use Rattle.life.specs.declared.command.Command.{Command}
 use Rattle.life.specs.declared.command.Command.TheVariants.{Load, Publish}
 use Rattle.life.specs.declared.command.Outcome.{Outcome}
 use Rattle.life.specs.declared.command.Outcome.TheVariants.{Loaded, Refused, Published, Unpublished}
-use Rattle.life.specs.Reached.{NoneIsReaders, lists_of, HasWorked, Reached}
-use Rattle.life.specs.PublisherWork.{Does, DoesAll, StopsAfter, store_in, AreCommands}
-use Rattle.life.specs.Clients.{IsServed, seen_by_all}
-use Rattle.life.specs.Continuing.{acts_after, HasLife, StopKeeps}
+use Rattle.life.specs.PublisherWork.{Does, DoesAll}
+use Rattle.life.specs.Clients.{IsServed}
 use Rattle.life.proofs.Calls.{work_append}
 use Rattle.life.proofs.Clients.{acted_all, settled_all}
 use Rattle.life.proofs.Serving.{state_at}
@@ -33,21 +24,21 @@ pub does_more : (s u t : StoreValue) (commands : List Command) (command : Comman
     → DoesAll s (commands ++ command ∷ []) (outcomes ++ outcome ∷ []) t
 does_more s u t [] command [] outcome all one =
     (t, subst (λ (x : StoreValue). Does x command outcome t) all one, refl)
-does_more s u t [] command (o ∷ os) outcome all one = absurd all
-does_more s u t (c ∷ cs) command [] outcome all one = absurd all
 does_more s u t (c ∷ cs) command (o ∷ os) outcome (between, first, rest) one =
     (between, first, does_more between u t cs command os outcome rest one)
+does_more s u t _ command _ outcome all one = absurd all
 
 -- the next command is done
-pub does_next : (s u t : StoreValue) (commands : List Command) (i : ℕ) (command : Command) (outcomes : List Outcome)
-    (outcome : Outcome) → i < length commands → command ≡ get_or commands i command
-    → DoesAll s (take i commands) outcomes u → Does u command outcome t
-    → DoesAll s (take (i + 1) commands) (outcomes ++ outcome ∷ []) t
-does_next s u t commands i command outcomes outcome below is all one =
+pub does_next : (s u t : StoreValue) (commands : List Command) (i : ℕ) (command : Command)
+    (outcomes pushed : List Outcome) (outcome : Outcome) → i < length commands
+    → command ≡ get_or commands i command → DoesAll s (take i commands) outcomes u → Does u command outcome t
+    → pushed ≡ outcomes ++ outcome ∷ [] → DoesAll s (take (i + 1) commands) pushed t
+does_next s u t commands i command outcomes pushed outcome below is all one items =
     let taken : take (i + 1) commands ≡ take i commands ++ command ∷ [] = take_more commands i command below
     ∙ ap (λ x. take i commands ++ x ∷ []) (sym is) in
-    subst (λ (l : List Command). DoesAll s l (outcomes ++ outcome ∷ []) t) (sym taken)
-    (does_more s u t (take i commands) command outcomes outcome all one)
+    subst (λ (l : List Outcome). DoesAll s (take (i + 1) commands) l t) (sym items)
+    (subst (λ (l : List Command). DoesAll s l (outcomes ++ outcome ∷ []) t) (sym taken)
+    (does_more s u t (take i commands) command outcomes outcome all one))
 
 -- some first commands are done
 pub stops_at : (s t : StoreValue) (commands : List Command) (i : ℕ) (outcomes : List Outcome)
@@ -68,10 +59,7 @@ none_done s t commands same =
 any_store : (most : ℕ) (s : State) (store other : SeenValue) (job : JobValue) (why : StoreFault)
     → IsRefused (store_in most s store) job why → IsRefused (store_in most s other) job why
 any_store most s store other job fault.BadName is = is
-any_store most s store other job fault.VersionsSpent is = is
-any_store most s store other job (fault.Refused why) is = is
-any_store most s store other job (fault.RefusedMo why) is = is
-any_store most s store other job fault.Memory is = is
+any_store most s store other job _ is = is
 
 record Done (seen : ℕ → ℕ) (commands : List Command) (outcomes : List Outcome) (t s : StoreValue) : Type 0 where
   pub events : List Event
@@ -94,8 +82,6 @@ done_all seen [] [] t s does = record {
   most = ap (λ (x : StoreValue). x.most) does;
   are = tt;
 }
-done_all seen [] (outcome ∷ outcomes) t s does = absurd does
-done_all seen (command ∷ commands) [] t s does = absurd does
 done_all seen (Load job ∷ commands) (Loaded counts ∷ outcomes) t s (between, (map, brings, adds), all) =
     let load : LoadValue = record { domain = job.domain; locale = job.locale; map = map } in
     let rest : Done seen commands outcomes t (record s { pending = s.pending ++ load ∷ [] }) = subst
@@ -120,10 +106,6 @@ done_all seen (Load job ∷ commands) (Refused why ∷ outcomes) t s (between, (
       most = rest.most;
       are = ((λ store. any_store s.most (state_at seen s) s.seen store job why refused), rest.are);
     }
-done_all seen (Load job ∷ commands) (Published version ∷ outcomes) t s (between, one, all) = absurd one
-done_all seen (Load job ∷ commands) (Unpublished ∷ outcomes) t s (between, one, all) = absurd one
-done_all seen (Publish ∷ commands) (Loaded counts ∷ outcomes) t s (between, one, all) = absurd one
-done_all seen (Publish ∷ commands) (Refused why ∷ outcomes) t s (between, one, all) = absurd one
 done_all seen (Publish ∷ commands) (Published version ∷ outcomes) t s (between, (is, version_is), all) =
     let rest : Done seen commands outcomes t (after_publish s) = subst
     (λ (x : StoreValue). Done seen commands outcomes t x) is (done_all seen commands outcomes t between all) in
@@ -146,6 +128,8 @@ done_all seen (Publish ∷ commands) (Unpublished ∷ outcomes) t s (between, (s
       most = rest.most;
       are = (some, rest.are);
     }
+done_all seen (_ ∷ commands) (_ ∷ outcomes) t s (between, one, all) = absurd one
+done_all seen _ _ t s does = absurd does
 
 -- what commands that were done add to the publisher's events
 pub record Worked (work : List Event) (s t : StoreValue) (commands : List Command) (outcomes : List Outcome) : Type 0

@@ -1,11 +1,6 @@
 -- Clients whose readers have seen just what is published.
-use Rattle.std.specs.List.{AllZip, AllByRecursion}
-use Rattle.std.proofs.Common.{◌≡◌, List, [], ◌∷◌, refl, ap, inl, subst}
-use Rattle.live_versions.specs.Batches.{StartsWith}
-use Rattle.live_versions.specs.Seen.{SeenValue}
-use Rattle.live_loads.proofs.Joining.{begins_refl}
-use Rattle.life.specs.declared.client.Client.{Client}
-use Rattle.life.specs.Clients.{HasLearnt}
+use Rattle.life.proofs.Common.{AllZip, AllByRecursion, ◌≡◌, List, [], ◌∷◌, refl, ap, inl, subst, StartsWith, SeenValue}
+use Rattle.life.proofs.Common.{begins_refl, Client, HasLearnt}
 
 seated_one : (start : SeenValue) (c : Client) → c.reader ≡ start → HasLearnt start c c
 seated_one start c is = record {

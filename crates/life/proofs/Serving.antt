@@ -1,31 +1,22 @@
 -- A service adds its jobs to what the publisher has done, and its entries to what each reader has.
-use Rattle.std.specs.List.{AllZip, AllByRecursion}
-use Rattle.std.proofs.Common.{◌≡◌, ◌⊎◌, ℕ, ◌≤◌, max, take, List, [], ◌∷◌, ◌++◌, map, Ok, Err, refl, sym, ap, ◌∙◌}
-use Rattle.std.proofs.Common.{subst, arith, inl, inr, ⊎_elim}
+use Rattle.life.proofs.Common.{AllZip, AllByRecursion, ◌≡◌, ℕ, ◌≤◌, max, take, List, [], ◌∷◌, ◌++◌, map, Ok, Err, refl}
+use Rattle.life.proofs.Common.{sym, ap, ◌∙◌, subst, arith, ⊎_elim, LoadValue, QueryValue, joined, version_of}
+use Rattle.life.proofs.Common.{StartsWith, SeenValue, StoreValue, Event, State, Accept, Refuse, opened, state_from}
+use Rattle.life.proofs.Common.{state_of, begins_refl, JobValue, after_publish, AreJobs, version_grows, first_loads}
+use Rattle.life.proofs.Common.{Runs, Level, runs_level, level_from, grows, state_append, Act, Learns, IsEntry}
+use Rattle.life.proofs.Common.{IsLearning, LeadsAll, NoneIsReaders, lists_of, HasActed}
 use Rattle.std.specs.String.{string_bytes}
-use Rattle.live_set.specs.Loads.{LoadValue}
-use Rattle.live_set.specs.Asks.{QueryValue}
 use Rattle.live_set.specs.Asks.{IsAnswer as HasText}
-use Rattle.live_versions.specs.Batches.{joined, version_of, StartsWith}
-use Rattle.live_versions.specs.Seen.{SeenValue}
-use Rattle.live_versions.specs.Store.{StoreValue}
-use Rattle.live_versions.specs.History.{Event, State, Accept, Refuse, Publish, opened, state_from, state_of}
+use Rattle.live_versions.specs.History.{Publish}
 use Rattle.live_loads.specs.declared.fault.StoreFault.{StoreFault}
 use Rattle.live_loads.specs.declared.fault.StoreFault.TheVariants as fault
-use Rattle.live_loads.proofs.Joining.{begins_refl}
 use Rattle.desks.specs.declared.desk.Answer.{Answer}
 use Rattle.desks.specs.declared.desk.Desk.{Desk}
 use Rattle.desks.specs.Answers.{IsVersionedAnswer, Answered}
-use Rattle.desks.specs.Jobs.{JobValue, Outcome, Does, DoesAll, after_publish}
+use Rattle.desks.specs.Jobs.{Outcome, Does, DoesAll}
 use Rattle.desks.specs.Desks.{IsServed}
-use Rattle.desks.specs.ServedHistory.{AreJobs}
-use Rattle.desks.proofs.Answers.{version_grows, first_loads}
-use Rattle.desks.proofs.Runs.{Runs, Level, runs_level, level_from, grows}
-use Rattle.desks.proofs.Learning.{state_append}
-use Rattle.life.specs.Acts.{Act, Learns, IsEntry, IsLearning, LeadsAll}
-use Rattle.life.specs.Reached.{NoneIsReaders, lists_of, HasActed}
 use Rattle.life.specs.Serving.{entered, served_acts, with_served, seen_at, ServeKeeps}
-use Rattle.life.proofs.Calls.{leads_append, work_append}
+use Rattle.life.proofs.Calls.{leads_append, work_append, learns_nothing, learns_all, either_begins}
 
 -- ---- the publisher
 
@@ -57,8 +48,6 @@ done_all seen [] [] t s does = record {
   most = ap (λ (x : StoreValue). x.most) does;
   jobs_are = tt;
 }
-done_all seen [] (outcome ∷ outcomes) t s does = absurd does
-done_all seen (job ∷ jobs) [] t s does = absurd does
 done_all seen (job ∷ jobs) (Ok counts ∷ outcomes) t s (between, (loaded, (map, brings, adds), is), all) =
     let load : LoadValue = record { domain = job.domain; locale = job.locale; map = map } in
     let next : between ≡ after_publish (record s { pending = s.pending ++ load ∷ [] }) = is
@@ -84,18 +73,9 @@ done_all seen (job ∷ jobs) (Err why ∷ outcomes) t s (between, one, all) =
       most = rest.most;
       jobs_are = rest.jobs_are;
     }
+done_all seen _ _ t s does = absurd does
 
 -- ---- a reader
-
--- of two beginnings of one list one begins the other
-either_begins : (z a b : List (List LoadValue)) → StartsWith z a → StartsWith z b → (StartsWith a b) ⊎ (StartsWith b a)
-either_begins z [] b p q = inr (b, refl)
-either_begins z (x ∷ a) [] p q = inl (x ∷ a, refl)
-either_begins [] (x ∷ a) (y ∷ b) p q = absurd (cc (p.1))
-either_begins (w ∷ z) (x ∷ a) (y ∷ b) p q =
-    let heads : x ≡ y = cc (p.1, q.1) in
-    ⊎_elim (λ (r : StartsWith a b). inl (r.0, cc (heads, r.1))) (λ (r : StartsWith b a). inr (r.0, cc (heads, r.1)))
-    (either_begins z a b (p.0, cc (p.1)) (q.0, cc (q.1)))
 
 -- the answer is out of an entry that begins with what was seen
 record Entered (end cur : List (List LoadValue)) (query : QueryValue) (answer : Answer) : Type 0 where
@@ -134,13 +114,12 @@ entered_all : (end cur : List (List LoadValue)) (least : ℕ) (queries : List Qu
     → StartsWith end cur → version_of cur ≤ least → Answered end least queries answers
     → (last : List (List LoadValue)) × StartsWith end last × LeadsAll cur (entered queries answers) last
 entered_all end cur least [] [] far le answered = (cur, far, refl)
-entered_all end cur least [] (answer ∷ answers) far le answered = absurd answered
-entered_all end cur least (query ∷ queries) [] far le answered = absurd answered
 entered_all end cur least (query ∷ queries) (answer ∷ answers) far le answered =
     let one = entered_one end cur query answer far (omega (arith, le, answered.0)) answered.1 in
     let rest = entered_all end one.next answer.version queries answers one.begins
     (omega (arith, one.is.version_is)) answered.2 in
     (rest.0, rest.1, (one.next, one.is, rest.2))
+entered_all end cur least _ _ far le answered = absurd answered
 
 -- the longer of both lists
 record Longer (end cur told : List (List LoadValue)) : Type 0 where
@@ -152,30 +131,10 @@ record Longer (end cur told : List (List LoadValue)) : Type 0 where
 longer : (end cur told : List (List LoadValue)) → StartsWith end cur → StartsWith end told → Longer end cur told
 longer end cur told far begins =
     ⊎_elim
-    (λ (over : StartsWith cur told). record {
-      next = cur;
-      begins = far;
-      low = omega arith;
-      is = record {
-        notice = told;
-        version_is = refl;
-        later = begins_refl cur;
-        told = over;
-        one = inl refl;
-      };
-    })
-    (λ (over : StartsWith told cur). record {
-      next = told;
-      begins = begins;
-      low = omega arith;
-      is = record {
-        notice = told;
-        version_is = refl;
-        later = over;
-        told = begins_refl told;
-        one = inr refl;
-      };
-    })
+    (λ (over : StartsWith cur told).
+    record { next = cur; begins = far; low = omega arith; is = learns_nothing cur told over })
+    (λ (over : StartsWith told cur).
+    record { next = told; begins = begins; low = omega arith; is = learns_all cur told over })
     (either_begins end cur told far begins)
 
 served_one : (start end : SeenValue) (acts : List Act) (desk done : Desk) → StartsWith end.batches start.batches
@@ -186,17 +145,10 @@ served_one start end acts desk done begins acted served =
     let asked = entered_all end.batches first.next
     (max (version_of desk.reader.batches) (version_of start.batches)) desk.queries.items done.answers.items first.begins
     first.low served.answered in
-    let settled : IsLearning asked.0 (version_of end.batches) end.batches = record {
-      notice = end.batches;
-      version_is = refl;
-      later = asked.1;
-      told = begins_refl end.batches;
-      one = inr refl;
-    } in
     let told : List Act = Learns (version_of end.batches) ∷ [] in
     let rest : LeadsAll first.next (entered desk.queries.items done.answers.items ++ told) end.batches = leads_append
     first.next (entered desk.queries.items done.answers.items) asked.0 told end.batches asked.2
-    (end.batches, settled, refl) in
+    (end.batches, learns_all asked.0 end.batches asked.1, refl) in
     let all : HasActed (acts ++ served_acts start end desk done) end.batches = leads_append [] acts desk.reader.batches
     (served_acts start end desk done) end.batches acted (first.next, first.is, rest) in
     subst (λ (x : SeenValue). HasActed (acts ++ served_acts start end desk done) x.batches) (sym served.reader) all
@@ -206,22 +158,20 @@ pub served_all : (start end : SeenValue) (acts : List (List Act)) (before done :
     → AllZip (IsServed start end) before done
     → AllZip HasActed (with_served start end acts before done) (seen_at done)
 served_all start end [] [] [] begins acted served = tt
-served_all start end [] (d ∷ ds) done begins acted served = absurd acted
-served_all start end (a ∷ more) [] done begins acted served = absurd acted
 served_all start end [] [] (x ∷ xs) begins acted served = absurd served
 served_all start end (a ∷ more) (d ∷ ds) [] begins acted served = absurd served
 served_all start end (a ∷ more) (d ∷ ds) (x ∷ xs) begins acted served =
     (served_one start end a d x begins acted.0 served.0, served_all start end more ds xs begins acted.1 served.1)
+served_all start end _ _ done begins acted served = absurd acted
 
 pub settled_all : (start end : SeenValue) (before done : List Desk) → AllZip (IsServed start end) before done
     → AllByRecursion (StartsWith end.batches) (seen_at done)
 settled_all start end [] [] served = tt
-settled_all start end [] (x ∷ xs) served = absurd served
-settled_all start end (d ∷ ds) [] served = absurd served
 settled_all start end (d ∷ ds) (x ∷ xs) served = (
   subst (λ (r : SeenValue). StartsWith end.batches r.batches) (sym served.0.reader) (begins_refl end.batches),
   settled_all start end ds xs served.1,
 )
+settled_all start end _ _ served = absurd served
 
 pub serve_keeps : ServeKeeps
 serve_keeps s t jobs outcomes before done work acts reached does served =

@@ -1,19 +1,11 @@
 -- One more reader's acts are put into a history: each where what is published is what the reader has seen behind it.
-use Rattle.std.specs.List.{AllZip}
-use Rattle.std.proofs.Common.{◌≡◌, ℕ, ◌+◌, ◌≤◌, ◌==◌, Bool, true, false, if◌then◌else◌, max, List, [], ◌∷◌}
-use Rattle.std.proofs.Common.{◌++◌, length, refl, sym, ap, ◌∙◌, subst, arith, length-append, ⊎_elim}
-use Rattle.std.proofs.lemmas.Bool.Decides.{nat_tests}
-use Rattle.std.proofs.lemmas.List.{append-nil}
-use Rattle.live_set.specs.Loads.{LoadValue}
-use Rattle.live_versions.specs.Batches.{joined, version_of, StartsWith}
-use Rattle.live_versions.specs.History.{Event, State, Enter, Learn, after, with_seen, state_from}
-use Rattle.live_versions.specs.History.{IsWhole}
-use Rattle.live_loads.proofs.Joining.{begins_refl, begins_trans}
-use Rattle.desks.specs.ServedHistory.{without_entries}
-use Rattle.desks.proofs.Answers.{version_grows}
-use Rattle.desks.proofs.Runs.{Level, level_from, level_trans, grows, work_more}
-use Rattle.life.specs.Acts.{Looked, Act, Enters, Learns, AreTexts, IsLearning, Leads, LeadsAll}
-use Rattle.life.specs.Life.{Met, Entry, Notice, met_in, met, IsStepOf}
+use Rattle.life.proofs.Common.{AllZip, ◌≡◌, ℕ, ◌+◌, ◌≤◌, ◌==◌, Bool, true, false, if◌then◌else◌, max, List, [], ◌∷◌}
+use Rattle.life.proofs.Common.{◌++◌, length, refl, sym, ap, ◌∙◌, subst, arith, length-append, ⊎_elim, nat_tests}
+use Rattle.life.proofs.Common.{append-nil, LoadValue, joined, version_of, StartsWith, Event, State, Enter, Learn, after}
+use Rattle.life.proofs.Common.{with_seen, state_from, IsWhole, begins_refl, begins_trans, without_entries}
+use Rattle.life.proofs.Common.{version_grows, Level, level_from, level_trans, grows, work_more, Looked, Act, Enters}
+use Rattle.life.proofs.Common.{Learns, AreTexts, IsLearning, Leads, LeadsAll, Met, Notice, met_in, met, IsStepOf}
+use Rattle.life.specs.Life.{Entry}
 use Rattle.life.proofs.Histories.{next_begins, Fits, Goes, goes_level, IsUnder, AreUnder, under_more, not_met_in}
 use Rattle.life.proofs.Histories.{seen_after, met_alike, seen_alike}
 
@@ -23,7 +15,7 @@ leads_begins : (a : List (List LoadValue)) (act : Act) (b : List (List LoadValue
 leads_begins a (Enters version looked) b leads = leads.later
 leads_begins a (Learns version) b leads = leads.later
 
-leads_all_begins : (a : List (List LoadValue)) (acts : List Act) (b : List (List LoadValue)) → LeadsAll a acts b
+pub leads_all_begins : (a : List (List LoadValue)) (acts : List Act) (b : List (List LoadValue)) → LeadsAll a acts b
     → StartsWith b a
 leads_all_begins a [] b is = subst (λ (l : List (List LoadValue)). StartsWith l a) (sym is) (begins_refl a)
 leads_all_begins a (act ∷ acts) b (next, leads, all) =
@@ -170,7 +162,7 @@ pass most r s e events acts last fit is w = record {
 abbrev pub seen_as : State → (ℕ → ℕ) → State
 seen_as s seen = record s { seen = seen }
 
-learnt_version : (seen version : ℕ) (cur next : List (List LoadValue)) → seen ≡ version_of cur
+pub learnt_version : (seen version : ℕ) (cur next : List (List LoadValue)) → seen ≡ version_of cur
     → IsLearning cur version next → max seen version ≡ version_of next
 learnt_version seen version cur next n leads =
     let a : version_of cur ≤ version_of next = version_grows next cur leads.later in

@@ -1,4 +1,4 @@
-use Rattle.std.proofs.Common.{rules}
+use Rattle.life.proofs.Common.{rules}
 use Rattle.life.proofs.answer.answer_group.Goals as goal
 
 pub returns-in-Ok-looked-clause-version : goal.returns-in-Ok-looked-clause-version

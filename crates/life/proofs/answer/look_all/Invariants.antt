@@ -1,7 +1,5 @@
-use Rattle.std.proofs.Common.{take}
-use Rattle.live_versions.specs.Batches.{joined}
+use Rattle.life.proofs.Common.{take, joined, AreTextsOf}
 use Rattle.live_versions.specs.Entering.{visit_of}
-use Rattle.life.specs.Replies.{AreTextsOf}
 use Rattle.life.proofs.answer.look_all.Given as goal
 
 abbrev pub invariant-loop-index : goal.invariant-loop-index

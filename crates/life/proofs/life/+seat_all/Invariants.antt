@@ -1,4 +1,4 @@
-use Rattle.std.proofs.Common.{length}
+use Rattle.life.proofs.Common.{length}
 use Rattle.life.proofs.life.+seat_all.Given as goal
 
 abbrev pub decreases-seat_all : goal.decreases-seat_all

@@ -1,4 +1,4 @@
-use Rattle.std.proofs.Common.{rules}
+use Rattle.life.proofs.Common.{rules}
 use Rattle.life.proofs.life.open_clients.Goals as goal
 
 pub returns-clause-most : goal.returns-clause-most

@@ -1,4 +1,4 @@
-use Rattle.std.proofs.Common.{rules}
+use Rattle.life.proofs.Common.{rules}
 use Rattle.life.proofs.publish.do_command.Goals as goal
 
 pub returns-in-Ok-clause-does : goal.returns-in-Ok-clause-does

@@ -1,4 +1,4 @@
-use Rattle.std.proofs.Common.{◌≡◌, take}
+use Rattle.life.proofs.Common.{◌≡◌, take}
 use Rattle.life.specs.PublisherWork.{DoesAll}
 use Rattle.life.proofs.publish.do_commands.Given as goal
 

@@ -1,7 +1,5 @@
-use Rattle.std.proofs.Common.{◌≡◌, ◌∙◌, ap, sym, subst}
-use Rattle.std.specs.List.{AllZip}
-use Rattle.live_versions.specs.Seen.{SeenValue}
-use Rattle.life.specs.Clients.{HasLearnt, IsServed}
+use Rattle.life.proofs.Common.{◌≡◌, ◌∙◌, ap, sym, subst, AllZip, SeenValue, HasLearnt}
+use Rattle.life.specs.Clients.{IsServed}
 use Rattle.life.proofs.Clients.{kept_then, kept_book, learnt_kept, served_all}
 use Rattle.life.proofs.service.run_slice.Goals as goal
 

@@ -1,4 +1,4 @@
-use Rattle.std.proofs.Common.{length}
+use Rattle.life.proofs.Common.{length}
 use Rattle.life.proofs.settle.+learn_all.Given as goal
 
 abbrev pub decreases-learn_all : goal.decreases-learn_all

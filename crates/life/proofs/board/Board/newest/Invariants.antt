@@ -1,5 +1,4 @@
-use Rattle.std.proofs.Common.{◌≡◌}
-use Rattle.std.specs.List.{All}
+use Rattle.life.proofs.Common.{◌≡◌, All}
 use Rattle.life.proofs.board.Board.newest.Given as goal
 
 abbrev pub invariant-slots : goal.invariant-slots

@@ -1,4 +1,4 @@
-use Rattle.std.proofs.Common.{rules}
+use Rattle.life.proofs.Common.{rules}
 use Rattle.life.proofs.snapshots.answer.answer_after.Goals as goal
 
 pub returns-clause-version : goal.returns-clause-version

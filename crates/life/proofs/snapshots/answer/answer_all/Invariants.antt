@@ -1,5 +1,4 @@
-use Rattle.std.proofs.Common.{◌≡◌, take}
-use Rattle.live_versions.specs.Batches.{StartsWith}
+use Rattle.life.proofs.Common.{◌≡◌, take, StartsWith}
 use Rattle.life.proofs.Entries.{Replied}
 use Rattle.life.proofs.snapshots.answer.answer_all.Given as goal
 

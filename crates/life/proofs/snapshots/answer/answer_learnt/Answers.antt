@@ -1,4 +1,4 @@
-use Rattle.std.proofs.Common.{ap, Some}
+use Rattle.life.proofs.Common.{ap, Some}
 use Rattle.life.proofs.Entries.{entered_answers}
 use Rattle.life.proofs.snapshots.answer.answer_learnt.Goals as goal
 

@@ -1,6 +1,4 @@
-use Rattle.std.proofs.Common.{take}
-use Rattle.live_versions.specs.Batches.{joined}
-use Rattle.life.specs.Replies.{AreTextsOf}
+use Rattle.life.proofs.Common.{take, joined, AreTextsOf}
 use Rattle.life.proofs.snapshots.answer.look_all.Given as goal
 
 abbrev pub invariant-loop-index : goal.invariant-loop-index

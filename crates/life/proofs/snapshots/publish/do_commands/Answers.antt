@@ -1,22 +1,13 @@
-use Rattle.std.proofs.Common.{rules, ◌≡◌, ◌+◌, List, [], ◌∷◌, ◌++◌, take, sym, subst, ◌∙◌}
-use Rattle.life.specs.declared.command.Outcome.{Outcome}
-use Rattle.life.specs.PublisherWork.{DoesAll}
+use Rattle.life.proofs.Common.{rules, ◌∙◌}
 use Rattle.life.proofs.Running.{does_next}
 use Rattle.life.proofs.snapshots.publish.do_commands.Goals as goal
 
 pub loop-index-preserved : goal.loop-index-preserved
 loop-index-preserved g c =
-    let commands = c.args.commands.now in
-    let i = c.loop-index.index in
-    let command = c.index-commands-index.result in
-    let outcome = c.do_and_tell-outcome.result in
-    let inv = c.loop-index.invariant in
-    let s = c.args.publisher.now in
-    let t = c.do_and_tell-outcome.new.publisher in
-    let items : c.push.new.self.items ≡ c.loop-index.outcomes.items ++ outcome ∷ [] = search rules in
-    let more : DoesAll s (take (i + 1) commands) (c.loop-index.outcomes.items ++ outcome ∷ []) t = does_next s
-    c.loop-index.publisher t commands i command c.loop-index.outcomes.items outcome (search rules)
-    c.index-commands-index.is inv.1 c.do_and_tell-outcome.ensures.does in (
+    let inv = c.loop-index.invariant in (
       c.do_and_tell-outcome.ensures.book ∙ inv.0,
-      subst (λ (l : List Outcome). DoesAll s (take (i + 1) commands) l t) (sym items) more,
+      does_next c.args.publisher.now c.loop-index.publisher c.do_and_tell-outcome.new.publisher c.args.commands.now
+          c.loop-index.index c.index-commands-index.result c.loop-index.outcomes.items c.push.new.self.items
+          c.do_and_tell-outcome.result (search rules) c.index-commands-index.is inv.1
+          c.do_and_tell-outcome.ensures.does (search rules),
     )

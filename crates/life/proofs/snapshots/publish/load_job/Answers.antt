@@ -1,5 +1,4 @@
-use Rattle.std.proofs.Common.{rules, ◌≡◌, sym, ap, ◌∙◌}
-use Rattle.desks.specs.Jobs.{Mo, JobValue, source_value, IsRefused}
+use Rattle.life.proofs.Common.{rules, ◌≡◌, sym, ap, ◌∙◌, Mo, JobValue, source_value, IsRefused}
 use Rattle.desks.proofs.Jobs.{accepted_po, refused_mo}
 use Rattle.life.proofs.snapshots.publish.load_job.Goals as goal
 

@@ -1,5 +1,4 @@
-use Rattle.std.specs.List.{AllByRecursion}
-use Rattle.std.proofs.Common.{◌≡◌, map}
+use Rattle.life.proofs.Common.{AllByRecursion, ◌≡◌, map}
 use Rattle.life.proofs.snapshots.run.seat_all.Given as goal
 
 abbrev pub invariant-lists : goal.invariant-lists
