@@ -1,34 +1,19 @@
 -- The look-ups of a reader until it enters another version or leaves are answered over the version that it is in.
-use Rattle.std.proofs.Common.{◌≡◌, ℕ, ◌==◌, Bool, true, false, if◌then◌else◌, List, [], ◌∷◌, ◌++◌, sym, ap}
-use Rattle.std.proofs.Common.{◌∙◌, subst, inl, inr}
-use Rattle.std.specs.Prelude.{◌&&◌, Option, None, Some, MatchOption}
-use Rattle.live_set.specs.Loads.{LoadValue}
-use Rattle.live_loads.specs.Batches.{joined}
-use Rattle.live_loads.specs.Seen.{SeenValue}
+use Rattle.c_handles.proofs.Common.{OthersStay, ◌≡◌, ℕ, ◌==◌, Bool, false, if◌then◌else◌, List, [], ◌∷◌, ◌++◌, sym, ap}
+use Rattle.c_handles.proofs.Common.{◌∙◌, subst, inl, inr, refl, ◌&&◌, Option, None, Some, MatchOption, take, LoadValue}
+use Rattle.c_handles.proofs.Common.{joined, SeenValue, LooksAtIn, Handle, Open, Handles, Call, MakesReader, EntersAfter}
+use Rattle.c_handles.proofs.Common.{Leaves, Looks, LooksAt, CountsReader, ClosesReader, AgreesWith, IsOpen, Makes}
+use Rattle.c_handles.proofs.Common.{Turns, IsMadeAt, EntersIn, EntersAfterIn, DoesToReaders, IsTrace, no_fault}
+use Rattle.c_handles.proofs.Common.{IsAnswerFrom, IsAnswerIn, reader_in, HeldSet, Origin, Lent, IsEntered}
+use Rattle.c_handles.proofs.Common.{IsEnteredAfter, IsAfter, Look, AreAnswered, ends_entry, look_in, looks_in, by_test}
 use Rattle.c_answers.specs.Answering.{IsClosedAnswer, Question, key_of}
 use Rattle.mo_image.specs.Entry.{Entry}
 use Rattle.live_set.specs.SetPlaces.{listed, map_among}
 use Rattle.live_set.specs.declared.places.Places.{Places}
 use Rattle.live_set.specs.Sets.{SetValue, fold}
-use Rattle.c_handles.specs.Calls.{LooksAtIn}
-use Rattle.std.specs.Prelude.{take}
-use Rattle.std.proofs.Common.{refl}
-use Rattle.c_answers.specs.Numbers.{no_fault}
+use Rattle.c_handles.specs.Calls.{Enters}
 use Rattle.c_sets.proofs.Reading.{answered_from as over_loads}
-use Rattle.c_sets.specs.Making.{IsAnswerFrom, IsAnswerIn, reader_in}
-use Rattle.c_sets.specs.declared.sets.HeldSet.{HeldSet}
-use Rattle.c_sets.specs.declared.sets.Origin.{Origin}
-use Rattle.c_sets.specs.declared.sets.Origin.TheVariants.{Made, Lent, Left, Refused}
-use Rattle.c_stores.specs.Storing.{IsEntered, IsEnteredAfter, IsAfter}
-use Rattle.c_stores.specs.declared.stores.HeldNotice.{HeldNotice}
-use Rattle.c_handles.specs.Calls.{Handle, Unused, Open, Closed, Handles, Call, OpensStore, Loads, Publishes, Reclaims}
-use Rattle.c_handles.specs.Calls.{CountsStore, ClosesStore, MakesNotice, ClosesNotice, MakesEntrance, ClosesEntrance}
-use Rattle.c_handles.specs.Calls.{MakesReader, Enters, EntersAfter, Leaves, Looks, LooksAt, CountsReader, ClosesReader}
-use Rattle.c_handles.specs.Calls.{AgreesWith}
-use Rattle.c_handles.specs.Calls.{IsOpen, IsUnused, Makes, Turns, IsMadeAt, EntersIn, EntersAfterIn, DoesToReaders}
-use Rattle.c_handles.specs.Calls.{IsTrace}
-use Rattle.c_handles.specs.HandleActs.{Look, AreAnswered, ends_entry, look_in, looks_in}
-use Rattle.c_handles.proofs.Slots.{by_test, changed, here, equal, opened_with}
+use Rattle.c_handles.proofs.Slots.{changed, equal, opened_with, made_at, turned_at}
 
 -- the reader is in the version of these batches
 abbrev pub IsInOrigin : List (List LoadValue) → Origin → Type 0
@@ -43,53 +28,21 @@ IsIn v _ = ⊥
 entered_fault : (v : List (List LoadValue)) (o : Origin) (f : ℕ) (new : HeldSet)
     → IsEntered (record { origin = o; fault = f }) new → IsInOrigin v o → new.fault ≡ no_fault
 entered_fault v (Lent r) f new is now = is.1
-entered_fault v (Made set) f new is now = absurd now
-entered_fault v (Left r set) f new is now = absurd now
-entered_fault v Refused f new is now = absurd now
-
-refused_entry : (v : List (List LoadValue)) (version fault : ℕ) (x y : Handle HeldSet)
-    → IsOpen (λ old. IsOpen (EntersIn version fault old) y) x → IsIn v x → (fault == no_fault) ≡ false → IsIn v y
-refused_entry v version fault Unused y is now fails = absurd now
-refused_entry v version fault (Closed a) y is now fails = absurd now
-refused_entry v version fault (Open a) Unused is now fails = absurd is
-refused_entry v version fault (Open a) (Closed b) is now fails = absurd is
-refused_entry v version fault (Open a) (Open b) is now fails =
-    let none : fault ≡ no_fault = is.numbers.fault_is ∙ entered_fault v a.origin a.fault b is.entered now in
-    absurd (cc (fails, ap (λ (n : ℕ). n == no_fault) none))
+entered_fault v _ f new is now = absurd now
 
 -- a reader that is told to be busy is where it was
 stays_after : (v : List (List LoadValue)) (r n : SeenValue) (o : Origin) (f : ℕ)
     → IsAfter r n (record { origin = o; fault = f }) → r.batches ≡ v → (f == no_fault) ≡ false → IsInOrigin v o
 stays_after v r n (Lent r') f (inl (none, sees)) now fails = absurd (cc (fails, ap (λ (k : ℕ). k == no_fault) none))
 stays_after v r n (Lent r') f (inr (busy, same)) now fails = ap (λ (x : SeenValue). x.batches) same ∙ now
-stays_after v r n (Made set) f is now fails = absurd is
-stays_after v r n (Left r' set) f is now fails = absurd is
-stays_after v r n Refused f is now fails = absurd is
+stays_after v r n _ f is now fails = absurd is
 
 stays_told : (v : List (List LoadValue)) (o : Origin) (f : ℕ) (notice : Option SeenValue) (new : HeldSet)
     → IsEnteredAfter (record { origin = o; fault = f }) (record { notice = notice }) new → IsInOrigin v o
     → (new.fault == no_fault) ≡ false → IsInOrigin v new.origin
 stays_told v (Lent r) f None new is now fails = absurd (cc (fails, ap (λ (k : ℕ). k == no_fault) is.1))
 stays_told v (Lent r) f (Some n) new is now fails = stays_after v r n new.origin new.fault is.1 now fails
-stays_told v (Made set) f notice new is now fails = absurd now
-stays_told v (Left r set) f notice new is now fails = absurd now
-stays_told v Refused f notice new is now fails = absurd now
-
-refused_after : (v : List (List LoadValue)) (n : HeldNotice) (told : Option ℕ) (version fault : ℕ)
-    (x y : Handle HeldSet) → IsOpen (λ old. IsOpen (EntersAfterIn n told version fault old) y) x → IsIn v x
-    → (fault == no_fault) ≡ false → IsIn v y
-refused_after v n told version fault Unused y is now fails = absurd now
-refused_after v n told version fault (Closed a) y is now fails = absurd now
-refused_after v n told version fault (Open a) Unused is now fails = absurd is
-refused_after v n told version fault (Open a) (Closed b) is now fails = absurd is
-refused_after v n told version fault (Open a) (Open b) is now fails =
-    stays_told v a.origin a.fault n.notice b is.entered now
-    (ap (λ (k : ℕ). k == no_fault) (sym is.numbers.fault_is) ∙ fails)
-
-not_new : (v : List (List LoadValue)) (x : Handle HeldSet) → IsUnused x → IsIn v x → ⊥
-not_new v Unused unused now = now
-not_new v (Open a) unused now = unused
-not_new v (Closed a) unused now = unused
+stays_told v _ f notice new is now fails = absurd now
 
 -- ---- a look-up
 
@@ -99,16 +52,13 @@ answered_from : (v : List (List LoadValue)) (o : Origin) (domain languages : Lis
 answered_from v (Lent r) domain languages q text now is = subst
     (λ (l : List (List LoadValue)). AreAnswered (joined l)
     (record { domain = domain; languages = languages; question = q; text = text } ∷ [])) now (is, tt)
-answered_from v (Made set) domain languages q text now is = absurd now
-answered_from v (Left r set) domain languages q text now is = absurd now
-answered_from v Refused domain languages q text now is = absurd now
+answered_from v _ domain languages q text now is = absurd now
 
 answered_here : (v : List (List LoadValue)) (x : Handle HeldSet) (domain languages : List ℕ) (q : Question)
     (text : List ℕ) → IsIn v x → IsOpen (λ r. IsAnswerFrom r.origin domain languages q text) x
     → AreAnswered (joined v) (record { domain = domain; languages = languages; question = q; text = text } ∷ [])
-answered_here v Unused domain languages q text now is = absurd now
-answered_here v (Closed a) domain languages q text now is = absurd now
 answered_here v (Open a) domain languages q text now is = answered_from v a.origin domain languages q text now is
+answered_here v _ domain languages q text now is = absurd now
 
 -- ---- a look-up at listed places
 
@@ -135,17 +85,14 @@ answered_at v (Lent r) f domain languages places q text now is =
       no_languages = λ l. nowhere set.held places q text (is.places_are.no_languages l) is.answer;
     } in
     answered_from v (Lent r) domain languages q text now (over_loads (Lent r) domain languages q text found)
-answered_at v (Made set) f domain languages places q text now is = absurd now
-answered_at v (Left r set) f domain languages places q text now is = absurd now
-answered_at v Refused f domain languages places q text now is = absurd now
+answered_at v _ f domain languages places q text now is = absurd now
 
 answered_at_here : (v : List (List LoadValue)) (x : Handle HeldSet) (domain languages : List ℕ) (places : Places)
     (q : Question) (text : List ℕ) → IsIn v x → IsOpen (LooksAtIn domain languages places q text) x
     → AreAnswered (joined v) (record { domain = domain; languages = languages; question = q; text = text } ∷ [])
-answered_at_here v Unused domain languages places q text now is = absurd now
-answered_at_here v (Closed a) domain languages places q text now is = absurd now
 answered_at_here v (Open a) domain languages places q text now is =
     answered_at v a.origin a.fault domain languages places q text now is
+answered_at_here v _ domain languages places q text now is = absurd now
 
 -- ---- a call
 
@@ -160,80 +107,68 @@ same_readers v k before after same now = record {
   stays = λ fails. subst (λ (f : ℕ → Handle HeldSet). IsIn v (f k)) (sym same) now;
 }
 
+-- a look-up by reader n, if it is this one
+looked : (v : List (List LoadValue)) (k n : ℕ) (before after : ℕ → Handle HeldSet) (Is : HeldSet → Type 0) (look : Look)
+    → IsOpen Is (before n) × (after ≡ before) → (IsOpen Is (before k) → AreAnswered (joined v) (look ∷ []))
+    → IsIn v (before k) → Continues v false (if k == n then look ∷ [] else []) (after k)
+looked v k n before after Is look is answers now = record {
+  answered = by_test (k == n)
+      (λ yes_. subst (λ (b : Bool). AreAnswered (joined v) (if b then look ∷ [] else [])) (sym yes_)
+      (answers (subst (λ (j : ℕ). IsOpen Is (before j)) (sym (equal k n yes_)) is.0)))
+      (λ no_. subst (λ (b : Bool). AreAnswered (joined v) (if b then look ∷ [] else [])) (sym no_) tt);
+  stays = λ fails. subst (λ (f : ℕ → Handle HeldSet). IsIn v (f k)) (sym is.1) now;
+}
+
+-- a call that ends the reader's entry
+ended : (v : List (List LoadValue)) (k n : ℕ) (before after : ℕ → Handle HeldSet) → OthersStay n before after
+    → IsIn v (before k) → Continues v (k == n) [] (after k)
+ended v k n before after others now = record {
+  answered = tt;
+  stays = changed k n before after (λ b x. b ≡ false → IsIn v x) others (λ fails. now)
+      (λ same fails. absurd (cc (fails)));
+}
+
 looks_step : (v : List (List LoadValue)) (k : ℕ) (h : Handles) (call : Call) (next : ℕ → Handle HeldSet)
     → DoesToReaders h call next → IsIn v (h.readers k)
     → Continues v (ends_entry k call) (look_in k call) (next k)
-looks_step v k h (OpensStore n fault) next is now = same_readers v k h.readers next is now
-looks_step v k h (Loads n domain locale opened fault) next is now = same_readers v k h.readers next is now
-looks_step v k h (Publishes n fault) next is now = same_readers v k h.readers next is now
-looks_step v k h (Reclaims n) next is now = same_readers v k h.readers next is now
-looks_step v k h (CountsStore n which number) next is now = same_readers v k h.readers next is now
-looks_step v k h (ClosesStore n) next is now = same_readers v k h.readers next is now
-looks_step v k h (MakesNotice n notice) next is now = same_readers v k h.readers next is now
-looks_step v k h (ClosesNotice notice) next is now = same_readers v k h.readers next is now
-looks_step v k h (MakesEntrance n entrance) next is now = same_readers v k h.readers next is now
-looks_step v k h (ClosesEntrance entrance) next is now = same_readers v k h.readers next is now
 looks_step v k h (MakesReader entrance n told version fault) next is now =
     let e = opened_with (λ e. Makes (IsMadeAt e told version fault) n h.readers next) (h.entrances entrance) is in
     record {
       answered = tt;
-      stays = changed k n h.readers next (λ b x. (b && fault == no_fault) ≡ false → IsIn v x) e.1.others
-          (λ fails. now)
-          (λ same fails. absurd (not_new v (h.readers k) (here k n h.readers next (λ x y. IsUnused x) same e.1.unused)
-          now));
+      stays = made_at (IsMadeAt e.0 told version fault) k n h.readers next
+          (λ b x y. IsIn v x → (b && fault == no_fault) ≡ false → IsIn v y) e.1 (λ now fails. now)
+          (λ r made now fails. absurd now) now;
     }
 looks_step v k h (Enters n version fault) next is now = record {
   answered = tt;
-  stays = changed k n h.readers next (λ b x. (b && fault == no_fault) ≡ false → IsIn v x) is.others (λ fails. now)
-      (λ same fails. refused_entry v version fault (h.readers k) (next k)
-      (here k n h.readers next (λ x y. IsOpen (λ old. IsOpen (EntersIn version fault old) y) x) same is.turned) now
-      fails);
+  stays = turned_at (EntersIn version fault) k n h.readers next
+      (λ b x y. IsIn v x → (b && fault == no_fault) ≡ false → IsIn v y) is (λ now fails. now)
+      (λ a c one now fails.
+      let none : fault ≡ no_fault = one.numbers.fault_is ∙ entered_fault v a.origin a.fault c one.entered now in
+      absurd (cc (fails, ap (λ (n : ℕ). n == no_fault) none))) now;
 }
 looks_step v k h (EntersAfter n notice told version fault) next is now =
     let m = opened_with (λ m. Turns (EntersAfterIn m told version fault) n h.readers next) (h.notices notice) is in
     record {
       answered = tt;
-      stays = changed k n h.readers next (λ b x. (b && fault == no_fault) ≡ false → IsIn v x) m.1.others (λ fails. now)
-          (λ same fails. refused_after v m.0 told version fault (h.readers k) (next k)
-          (here k n h.readers next (λ x y. IsOpen (λ old. IsOpen (EntersAfterIn m.0 told version fault old) y) x) same
-          m.1.turned) now fails);
+      stays = turned_at (EntersAfterIn m.0 told version fault) k n h.readers next
+          (λ b x y. IsIn v x → (b && fault == no_fault) ≡ false → IsIn v y) m.1 (λ now fails. now)
+          (λ a c one now fails. stays_told v a.origin a.fault m.0.notice c one.entered now
+          (ap (λ (k : ℕ). k == no_fault) (sym one.numbers.fault_is) ∙ fails)) now;
     }
-looks_step v k h (Leaves n) next is now = record {
-  answered = tt;
-  stays = changed k n h.readers next (λ b x. b ≡ false → IsIn v x) is.others (λ fails. now)
-      (λ same fails. absurd (cc (fails)));
-}
+looks_step v k h (Leaves n) next is now = ended v k n h.readers next is.others now
 looks_step v k h (Looks n domain languages question text) next is now =
-    let look : Look = record { domain = domain; languages = languages; question = question; text = text } in
-    let at : (k == n) ≡ true → AreAnswered (joined v) (look ∷ []) = λ yes_.
-    answered_here v (h.readers k) domain languages question text now
-    (subst (λ (j : ℕ). IsOpen (λ r. IsAnswerFrom r.origin domain languages question text) (h.readers j))
-    (sym (equal k n yes_)) is.0) in
-    record {
-      answered = by_test (k == n)
-          (λ yes_. subst (λ (b : Bool). AreAnswered (joined v) (if b then look ∷ [] else [])) (sym yes_) (at yes_))
-          (λ no_. subst (λ (b : Bool). AreAnswered (joined v) (if b then look ∷ [] else [])) (sym no_) tt);
-      stays = λ fails. subst (λ (f : ℕ → Handle HeldSet). IsIn v (f k)) (sym is.1) now;
-    }
+    looked v k n h.readers next (λ r. IsAnswerFrom r.origin domain languages question text)
+    (record { domain = domain; languages = languages; question = question; text = text }) is
+    (λ is. answered_here v (h.readers k) domain languages question text now is) now
 looks_step v k h (LooksAt n domain languages places question text) next is now =
-    let look : Look = record { domain = domain; languages = languages; question = question; text = text } in
-    let at : (k == n) ≡ true → AreAnswered (joined v) (look ∷ []) = λ yes_.
-    answered_at_here v (h.readers k) domain languages places question text now
-    (subst (λ (j : ℕ). IsOpen (LooksAtIn domain languages places question text) (h.readers j))
-    (sym (equal k n yes_)) is.0) in
-    record {
-      answered = by_test (k == n)
-          (λ yes_. subst (λ (b : Bool). AreAnswered (joined v) (if b then look ∷ [] else [])) (sym yes_) (at yes_))
-          (λ no_. subst (λ (b : Bool). AreAnswered (joined v) (if b then look ∷ [] else [])) (sym no_) tt);
-      stays = λ fails. subst (λ (f : ℕ → Handle HeldSet). IsIn v (f k)) (sym is.1) now;
-    }
+    looked v k n h.readers next (LooksAtIn domain languages places question text)
+    (record { domain = domain; languages = languages; question = question; text = text }) is
+    (λ is. answered_at_here v (h.readers k) domain languages places question text now is) now
 looks_step v k h (CountsReader n which number) next is now = same_readers v k h.readers next is.1 now
 looks_step v k h (AgreesWith store n) next is now = same_readers v k h.readers next is.1 now
-looks_step v k h (ClosesReader n) next is now = record {
-  answered = tt;
-  stays = changed k n h.readers next (λ b x. b ≡ false → IsIn v x) is.others (λ fails. now)
-      (λ same fails. absurd (cc (fails)));
-}
+looks_step v k h (ClosesReader n) next is now = ended v k n h.readers next is.others now
+looks_step v k h _ next is now = same_readers v k h.readers next is now
 
 -- ---- a trace
 

@@ -1,17 +1,12 @@
 -- The acts of a reader lead from what it had seen to what it has seen.
-use Rattle.std.proofs.Common.{◌≡◌, ◌⊎◌, ℕ, ◌≤◌, List, [], ◌∷◌, ◌++◌, map, length, refl, sym, subst, arith, ap, max}
-use Rattle.std.proofs.Common.{inl, inr, ⊎_elim}
-use Rattle.std.specs.Prelude.{⊤, Option, None, Some}
-use Rattle.std.proofs.lemmas.Bool.Decides.{nat_tests}
-use lib.Dec.{leb}
-use Rattle.live_set.specs.Loads.{LoadValue}
-use Rattle.live_loads.specs.Batches.{joined, version_of, StartsWith}
-use Rattle.live_loads.proofs.Joining.{begins_refl, begins_trans}
-use Rattle.snapshot_store.proofs.Ordering.{ordered}
+use Rattle.c_handles.proofs.Common.{◌≡◌, ◌⊎◌, ℕ, ◌≤◌, List, [], ◌∷◌, ◌++◌, map, refl, sym, subst, arith, max, ⊎_elim}
+use Rattle.c_handles.proofs.Common.{Option, None, Some, ⊤, LoadValue, joined, version_of, StartsWith, GoOn, Look}
+use Rattle.c_handles.proofs.Common.{ReaderAct, Entered, Told, telling, AreAnswered, learns_nothing, learns_all}
+use Rattle.c_handles.proofs.Common.{either_begins}
 use Rattle.life.specs.Acts.{Act, Enters, Learns, IsLearning, Leads, LeadsAll}
 use Rattle.desks.proofs.Answers.{version_grows}
-use Rattle.c_handles.specs.HandleActs.{GoOn, Look, ReaderAct, Entered, Told, telling, AreAnswered}
-use Rattle.c_handles.proofs.Slots.{by_test}
+use Rattle.life.proofs.Weaving.{learnt_version}
+use Rattle.life.proofs.Weaving.{leads_all_begins as life_begins}
 
 -- an entry of these batches, with the look-ups in it
 pub record IsReading (seen : List (List LoadValue)) (version : ℕ) (looks : List Look) (next : List (List LoadValue))
@@ -34,28 +29,6 @@ pub leads_append : (a : List (List LoadValue)) (xs : List ReaderAct) (b : List (
 leads_append a [] b ys c is more = subst (λ (x : List (List LoadValue)). ReaderLeadsAll x ys c) is more
 leads_append a (x ∷ xs) b ys c (next, one, rest) more = (next, one, leads_append next xs b ys c rest more)
 
-leads_begins : (a : List (List LoadValue)) (act : ReaderAct) (b : List (List LoadValue)) → ReaderLeads a act b
-    → StartsWith b a
-leads_begins a (Entered version looks) b leads = leads.later
-leads_begins a (Told version) b leads = leads.later
-
-pub leads_all_begins : (a : List (List LoadValue)) (acts : List ReaderAct) (b : List (List LoadValue))
-    → ReaderLeadsAll a acts b → StartsWith b a
-leads_all_begins a [] b is = subst (λ (l : List (List LoadValue)). StartsWith l a) (sym is) (begins_refl a)
-leads_all_begins a (act ∷ acts) b (next, leads, all) =
-    begins_trans b next a (leads_all_begins next acts b all) (leads_begins a act next leads)
-
--- ---- of two beginnings of one list, one begins the other
-
-pub either_begins : (fin a b : List (List LoadValue)) → StartsWith fin a → StartsWith fin b
-    → StartsWith a b ⊎ StartsWith b a
-either_begins fin a b p q =
-    by_test (leb (length a) (length b))
-    (λ yes_. let le : length a ≤ length b = grind (arith, nat_tests, yes_) in inr
-    (ordered a b fin (p.0, sym p.1) (q.0, sym q.1) le))
-    (λ no_. let le : length b ≤ length a = grind (arith, nat_tests, no_) in inl
-    (ordered b a fin (q.0, sym q.1) (p.0, sym p.1) le))
-
 -- ---- an entry after what was told
 
 -- what was told is the version of a beginning of these batches
@@ -75,25 +48,19 @@ pub entry_leads : (seen : List (List LoadValue)) (told : Option ℕ) (version : 
 entry_leads seen None version looks next later told is answered = one_entry seen version looks next later is answered
 entry_leads seen (Some old) version looks next later (notice, same, begins) is answered =
     ⊎_elim
-    (λ (longer : StartsWith seen notice).
-    let learning : IsLearning seen old seen = record {
-      notice = notice;
-      version_is = same;
-      later = begins_refl seen;
-      told = longer;
-      one = inl refl;
-    } in
-    (seen, learning, one_entry seen version looks next later is answered))
-    (λ (newer : StartsWith notice seen).
-    let learning : IsLearning seen old notice = record {
-      notice = notice;
-      version_is = same;
-      later = newer;
-      told = begins_refl notice;
-      one = inr refl;
-    } in
-    (notice, learning, one_entry notice version looks next begins is answered))
-    (either_begins next seen notice later begins)
+    (λ (longer : StartsWith seen notice). (
+      seen,
+      learns_so seen (learns_nothing seen notice longer),
+      one_entry seen version looks next later is answered,
+    ))
+    (λ (newer : StartsWith notice seen). (
+      notice,
+      learns_so notice (learns_all seen notice newer),
+      one_entry notice version looks next begins is answered,
+    ))
+    (either_begins next seen notice later begins) where
+      learns_so : (now : List (List LoadValue)) → IsLearning seen (version_of notice) now → IsLearning seen old now
+      learns_so now is = subst (λ (v : ℕ). IsLearning seen v now) (sym same) is
 
 -- ---- the same acts without their texts, as acts of a life
 
@@ -113,18 +80,11 @@ plain_leads_all a [] b is = is
 plain_leads_all a (act ∷ acts) b (next, one, rest) =
     (next, plain_leads a act next one, plain_leads_all next acts b rest)
 
--- ---- versions that never fall
+pub leads_all_begins : (a : List (List LoadValue)) (acts : List ReaderAct) (b : List (List LoadValue))
+    → ReaderLeadsAll a acts b → StartsWith b a
+leads_all_begins a acts b leads = life_begins a (map plain acts) b (plain_leads_all a acts b leads)
 
-learnt : (seen version : ℕ) (cur next : List (List LoadValue)) → seen ≡ version_of cur → IsLearning cur version next
-    → max seen version ≡ version_of next
-learnt seen version cur next n leads =
-    let a : version_of cur ≤ version_of next = version_grows next cur leads.later in
-    let b : version_of leads.notice ≤ version_of next = version_grows next leads.notice leads.told in
-    ⊎_elim
-    (λ (is : next ≡ cur). let c : version_of next ≡ version_of cur = ap version_of is in omega
-    (arith, a, b, c, n, leads.version_is))
-    (λ (is : next ≡ leads.notice). let c : version_of next ≡ version_of leads.notice = ap version_of is in omega
-    (arith, a, b, c, n, leads.version_is)) leads.one
+-- ---- versions that never fall
 
 pub goes_on : (seen : ℕ) (a : List (List LoadValue)) (acts : List ReaderAct) (b : List (List LoadValue))
     → seen ≡ version_of a → ReaderLeadsAll a acts b → GoOn seen acts
@@ -136,4 +96,4 @@ goes_on seen a (Entered version looks ∷ acts) b n (next, one, rest) =
       goes_on version next acts b one.version_is rest,
     )
 goes_on seen a (Told version ∷ acts) b n (next, one, rest) =
-    goes_on (max seen version) next acts b (learnt seen version a next n one) rest
+    goes_on (max seen version) next acts b (learnt_version seen version a next n one) rest

@@ -1,24 +1,12 @@
 -- The first calls of a program, step by step.
-use Rattle.std.specs.declared.alloc.Global.{Global}
-use Rattle.std.specs.declared.sync.Arc.{Arc}
-use Rattle.std.specs.Arc.{arc_value}
-use Rattle.std.specs.Prelude.{Some}
-use Rattle.std.proofs.Common.{ℕ, ◌==◌, Bool, if◌then◌else◌, List, [], ◌∷◌, refl, ap, arith, inl}
+use Rattle.c_handles.proofs.Common.{Global, Arc, arc_value, Some, ℕ, ◌==◌, Bool, if◌then◌else◌, List, [], ◌∷◌, refl, ap}
+use Rattle.c_handles.proofs.Common.{arith, inl, LoadValue, SeenValue, AreNames, begins_refl, begins_nil, Opened}
+use Rattle.c_handles.proofs.Common.{load_of, HeldSet, Lent, Left, HeldStore, Handle, Open, Closed, Handles, OpensStore}
+use Rattle.c_handles.proofs.Common.{MakesEntrance, MakesReader, Loads, Publishes, MakesNotice, EntersAfter, Leaves}
+use Rattle.c_handles.proofs.Common.{ClosesReader, ClosesStore, AgreesWith, OthersStay, IsStep, IsTrace, no_handles}
 use Rattle.logbook.specs.Pages.{Book}
 use Rattle.mo_image.specs.Entry.{Entry}
-use Rattle.live_set.specs.Loads.{LoadValue}
 use Rattle.live_set.specs.Sets.{no_loads}
-use Rattle.live_loads.specs.Seen.{SeenValue}
-use Rattle.live_loads.specs.Store.{AreNames}
-use Rattle.live_loads.proofs.Joining.{begins_refl, begins_nil}
-use Rattle.c_answers.specs.declared.opened.Opened.{Opened}
-use Rattle.c_sets.specs.Making.{load_of}
-use Rattle.c_sets.specs.declared.sets.HeldSet.{HeldSet}
-use Rattle.c_sets.specs.declared.sets.Origin.TheVariants.{Lent, Left}
-use Rattle.c_stores.specs.declared.stores.HeldStore.{HeldStore}
-use Rattle.c_handles.specs.Calls.{Handle, Open, Closed, Handles, OpensStore, MakesEntrance, MakesReader, Loads}
-use Rattle.c_handles.specs.Calls.{Publishes, MakesNotice, EntersAfter, Leaves, ClosesReader, ClosesStore, AgreesWith}
-use Rattle.c_handles.specs.Calls.{OthersStay, IsStep, IsTrace, no_handles}
 use Rattle.c_handles.specs.Example.{first_calls, FirstCallsArePossible}
 
 -- handle 0 is this, and all others are as they were

@@ -1,3 +1,4 @@
+pub mod Common
 pub mod Slots
 pub mod Work
 pub mod Entries

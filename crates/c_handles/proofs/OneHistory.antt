@@ -1,27 +1,17 @@
 -- The law of handles: the work of a store and the acts of its readers are put into one history.
+use Rattle.c_handles.proofs.Common.{Option, None, Some, MatchOption, ◌≡◌, ℕ, zero, suc, List, [], ◌∷◌, ◌++◌, map, refl}
+use Rattle.c_handles.proofs.Common.{sym, ap, ◌∙◌, subst, ⊤, LoadValue, StartsWith, SeenValue, StoreValue, begins_nil}
+use Rattle.c_handles.proofs.Common.{begins_trans, Event, opened, memory_fault, any_reader_in, HeldSet, Handle, Unused}
+use Rattle.c_handles.proofs.Common.{Open, Closed, Handles, Call, AgreesWith, no_handles, IsOpen, IsStep, AgreesIn}
+use Rattle.c_handles.proofs.Common.{IsTrace, store_in, view_in, HeldStore, ReaderAct, work_in, acts_in, IsStepOf}
 use Rattle.std.specs.List.{AllZip, AllByRecursion}
-use Rattle.std.specs.Prelude.{⊤, Option, None, Some, MatchOption}
-use Rattle.std.proofs.Common.{◌≡◌, ℕ, zero, suc, List, [], ◌∷◌, ◌++◌, map, refl, sym, ap, ◌∙◌, subst}
-use Rattle.live_set.specs.Loads.{LoadValue}
-use Rattle.live_loads.specs.Batches.{StartsWith}
-use Rattle.live_loads.specs.Seen.{SeenValue}
-use Rattle.live_loads.specs.Store.{StoreValue}
-use Rattle.live_loads.proofs.Joining.{begins_nil, begins_trans}
-use Rattle.live_versions.specs.History.{Event, opened}
 use Rattle.life.specs.Acts.{Act}
 use Rattle.life.specs.Reached.{lists_of, HasWorked, HasActed, Reached}
 use Rattle.life.specs.Life.{met, IsLifeOf}
 use Rattle.life.specs.Life.{IsStepOf as IsLifeStep, acts_of as life_acts}
 use Rattle.life.proofs.OneLife.{one_life}
-use Rattle.c_answers.specs.Numbers.{memory_fault}
-use Rattle.c_sets.specs.Making.{any_reader_in}
-use Rattle.c_sets.specs.declared.sets.HeldSet.{HeldSet}
-use Rattle.c_handles.specs.Calls.{Handle, Unused, Open, Closed, Handles, Call, AgreesWith, no_handles, IsOpen, IsStep}
-use Rattle.c_handles.specs.Calls.{AgreesIn, IsTrace, store_in, view_in}
-use Rattle.c_stores.specs.declared.stores.HeldStore.{HeldStore}
-use Rattle.c_handles.specs.HandleActs.{ReaderAct, work_in, acts_in, IsStepOf}
-use Rattle.c_handles.specs.OneHistory.{IsReaderOf, HasBookOf, IsHistoryOf, agreements, acts_of}
-use Rattle.c_handles.specs.OneHistory.{ReadersGoOn, HandlesHaveOneHistory}
+use Rattle.c_handles.specs.OneHistory.{IsReaderOf, HasBookOf, IsHistoryOf, agreements, acts_of, ReadersGoOn}
+use Rattle.c_handles.specs.OneHistory.{HandlesHaveOneHistory}
 use Rattle.c_handles.proofs.Provenance.{readers_stay}
 use Rattle.c_handles.proofs.Work.{WorkedIn, Worked, work_all}
 use Rattle.c_handles.proofs.Entries.{ReaderLeadsAll, plain, plain_leads_all, goes_on}
@@ -30,8 +20,7 @@ use Rattle.c_handles.proofs.Texts.{AreWithin, with_texts, all_within}
 
 worked_in : (work : List Event) (x : Handle HeldStore) → Worked work x → WorkedIn work (store_in x)
 worked_in work Unused worked = tt
-worked_in work (Open held) worked = worked
-worked_in work (Closed held) worked = worked
+worked_in work _ worked = worked
 
 -- what these readers have seen, if they have the store's book, is a beginning of what is published
 abbrev AreOfOneBook : StoreValue → Handles → List ℕ → Type 0
@@ -156,15 +145,12 @@ agreed_view s (Some v) agrees = agrees
 agreed_with : (s : StoreValue) (x : Handle HeldStore) (y : Handle HeldSet) → store_in x ≡ Some s
     → IsOpen (λ store. IsOpen (AgreesIn store) y) x
     → MatchOption (view_in y) ⊤ (λ v. v.book ≡ s.seen.book → StartsWith s.seen.batches v.batches)
-agreed_with s Unused y is agrees = absurd agrees
-agreed_with s (Closed held) y is agrees = absurd agrees
-agreed_with s (Open held) Unused is agrees = absurd agrees
-agreed_with s (Open held) (Closed r) is agrees = absurd agrees
 agreed_with s (Open held) (Open r) is agrees =
     agreed_view s (any_reader_in r.origin) (subst (λ (p : Option StoreValue).
     MatchOption p ⊤ (λ s. MatchOption (any_reader_in r.origin) ⊤ (λ v. v.book ≡ s.seen.book))
     → MatchOption p ⊤ (λ s. MatchOption (any_reader_in r.origin) ⊤ (λ v. StartsWith s.seen.batches v.batches))) is
     agrees)
+agreed_with s _ _ is agrees = absurd agrees
 
 all_agreed : (s : StoreValue) (store : ℕ) (readers : List ℕ) (h last : Handles) → store_in (h.stores store) ≡ Some s
     → IsTrace h (agreements store readers) last → AreOfOneBook s h readers

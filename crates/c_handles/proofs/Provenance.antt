@@ -1,17 +1,9 @@
 -- A reader that was made at an entrance of a store has that store's book.
-use Rattle.std.proofs.Common.{◌≡◌, ℕ, List, [], ◌∷◌, sym, ap, ◌∙◌, subst, inl, inr}
-use Rattle.std.specs.Prelude.{⊤, Option, None, Some, MatchOption}
-use Rattle.live_loads.specs.Seen.{SeenValue}
-use Rattle.live_loads.specs.Store.{StoreValue}
-use Rattle.c_sets.specs.Making.{any_reader_in}
-use Rattle.c_sets.specs.declared.sets.HeldSet.{HeldSet}
-use Rattle.c_sets.specs.declared.sets.Origin.{Origin}
-use Rattle.c_sets.specs.declared.sets.Origin.TheVariants.{Made, Lent, Left, Refused}
-use Rattle.c_stores.specs.Storing.{IsEntranceOf, IsReaderFrom}
-use Rattle.c_stores.specs.declared.stores.HeldStore.{HeldStore}
-use Rattle.c_stores.specs.declared.stores.HeldEntrance.{HeldEntrance}
-use Rattle.c_handles.specs.Calls.{Handle, Unused, Open, Closed, Handles, Call, MakesEntrance, MakesReader, no_handles}
-use Rattle.c_handles.specs.Calls.{IsOpen, Makes, IsMadeAt, IsStep, IsTrace, store_in}
+use Rattle.c_handles.proofs.Common.{◌≡◌, ℕ, List, [], ◌∷◌, sym, ap, ◌∙◌, subst, inl, inr, Option, None, Some}
+use Rattle.c_handles.proofs.Common.{MatchOption, ⊤, SeenValue, StoreValue, any_reader_in, HeldSet, Origin, Lent, Left}
+use Rattle.c_handles.proofs.Common.{IsEntranceOf, IsReaderFrom, HeldStore, HeldEntrance, Handle, Unused, Open, Closed}
+use Rattle.c_handles.proofs.Common.{Handles, Call, MakesEntrance, MakesReader, no_handles, IsOpen, Makes, IsMadeAt}
+use Rattle.c_handles.proofs.Common.{IsStep, IsTrace, store_in}
 use Rattle.c_handles.specs.OneHistory.{IsAmong, HasBookOf, ReadersStay}
 use Rattle.c_handles.proofs.Books.{Keeps, KeepsStore, IsSameStore, KeepsReader, IsSameReader, IsSameEntrance}
 use Rattle.c_handles.proofs.Books.{stores_keep, entrances_keep, readers_keep}
@@ -43,16 +35,14 @@ IsAtEnd e (Closed last) = last ≡ e
 
 kept_entrance : (x y : Handle HeldEntrance) (P : HeldEntrance → Type 0) → IsOpen P x → Keeps IsSameEntrance x y
     → (e : HeldEntrance) × P e × IsAtEnd e y
-kept_entrance Unused y P is keeps = absurd is
-kept_entrance (Closed e) y P is keeps = absurd is
 kept_entrance (Open e) Unused P is keeps = absurd keeps
 kept_entrance (Open e) (Open last) P is keeps = (e, is, keeps)
 kept_entrance (Open e) (Closed last) P is keeps = (e, is, keeps)
+kept_entrance _ y P is keeps = absurd is
 
 one_entrance : (a b : HeldEntrance) (x : Handle HeldEntrance) → IsAtEnd a x → IsAtEnd b x → a ≡ b
 one_entrance a b Unused p q = absurd p
-one_entrance a b (Open last) p q = sym p ∙ q
-one_entrance a b (Closed last) p q = sym p ∙ q
+one_entrance a b _ p q = sym p ∙ q
 
 -- an entrance has the store's book, if both could be made
 abbrev pub AreOfOneStore : Option SeenValue → Option StoreValue → Type 0
@@ -72,23 +62,21 @@ store_later (Some e) (Some s) (Some t) is keeps = is ∙ sym keeps
 
 kept_store : (x y : Handle HeldStore) (P : HeldStore → Type 0) → IsOpen P x → Keeps IsSameStore x y
     → (s : HeldStore) × P s × KeepsStore s.publisher (store_in y)
-kept_store Unused y P is keeps = absurd is
-kept_store (Closed s) y P is keeps = absurd is
 kept_store (Open s) Unused P is keeps = absurd keeps
 kept_store (Open s) (Open last) P is keeps = (s, is, keeps)
 kept_store (Open s) (Closed last) P is keeps = (s, is, keeps)
+kept_store _ y P is keeps = absurd is
 
 -- ---- the reader
 
 reader_book : (e : Option SeenValue) (s : Option StoreValue) (o : Origin) (f : ℕ)
     → IsReaderFrom (record { entrance = e }) (record { origin = o; fault = f }) → AreOfOneStore e s
     → MatchOption (any_reader_in o) ⊤ (λ r. MatchOption s ⊥ (λ s. r.book ≡ s.seen.book))
-reader_book e s (Made set) f is of = tt
-reader_book e s Refused f is of = tt
 reader_book e s (Left r set) f is of = absurd (cc (is.refused))
 reader_book None s (Lent r) f is of = absurd is.1
 reader_book (Some e) None (Lent r) f is of = absurd of
 reader_book (Some e) (Some s) (Lent r) f is of = is.1.0 ∙ of
+reader_book e s _ f is of = tt
 
 reader_later : (p q : Option SeenValue) (s : StoreValue) → MatchOption p ⊤ (λ r. r.book ≡ s.seen.book)
     → KeepsReader p q → MatchOption q ⊤ (λ r. r.book ≡ s.seen.book)
@@ -100,18 +88,16 @@ reader_later (Some v) (Some w) s is keeps = keeps ∙ is
 kept_reader : (s : StoreValue) (x y : Handle HeldSet)
     → IsOpen (λ r. MatchOption (any_reader_in r.origin) ⊤ (λ r. r.book ≡ s.seen.book)) x → Keeps IsSameReader x y
     → HasBookOf s y
-kept_reader s Unused y is keeps = absurd is
-kept_reader s (Closed a) y is keeps = absurd is
 kept_reader s (Open a) Unused is keeps = absurd keeps
 kept_reader s (Open a) (Open b) is keeps =
     reader_later (any_reader_in a.origin) (any_reader_in b.origin) s is keeps
 kept_reader s (Open a) (Closed b) is keeps =
     reader_later (any_reader_in a.origin) (any_reader_in b.origin) s is keeps
+kept_reader s _ y is keeps = absurd is
 
 made_open : (P Q : HeldSet → Type 0) (x : Handle HeldSet) → ((r : HeldSet) → P r → Q r) → IsOpen P x → IsOpen Q x
-made_open P Q Unused gives is = absurd is
 made_open P Q (Open r) gives is = gives r is
-made_open P Q (Closed r) gives is = absurd is
+made_open P Q _ gives is = absurd is
 
 -- the store's book is that of an entrance that was made
 of_store : (store entrance : ℕ) (last : Handles) (m : Moment (MakesEntrance store entrance) last)

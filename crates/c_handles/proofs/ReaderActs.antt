@@ -1,28 +1,16 @@
 -- The acts of a reader in a trace lead from nothing to what it has seen, or to a beginning of that.
-use Rattle.std.proofs.Common.{◌≡◌, ℕ, ◌==◌, Bool, true, false, if◌then◌else◌, List, [], ◌∷◌, refl, sym, ap}
-use Rattle.std.proofs.Common.{◌∙◌, subst, inl, inr}
-use Rattle.std.specs.Prelude.{Option, None, Some, MatchOption}
-use Rattle.live_set.specs.Loads.{LoadValue}
-use Rattle.live_loads.specs.Batches.{joined, version_of, StartsWith}
-use Rattle.live_loads.specs.Seen.{SeenValue}
-use Rattle.live_loads.proofs.Joining.{begins_refl, begins_trans, begins_nil}
-use Rattle.c_answers.specs.Numbers.{no_fault, busy_fault, memory_fault}
-use Rattle.c_sets.specs.Making.{reader_in, any_reader_in}
-use Rattle.c_sets.specs.declared.sets.HeldSet.{HeldSet}
-use Rattle.c_sets.specs.declared.sets.Origin.{Origin}
-use Rattle.c_sets.specs.declared.sets.Origin.TheVariants.{Made, Lent, Left, Refused}
-use Rattle.c_stores.specs.Storing.{IsReaderFrom, IsEntered, IsEnteredAfter, IsLater, IsStillOut, IsBack, IsBackAfter}
-use Rattle.c_stores.specs.Storing.{IsAfter, HasLeft, IsLeft}
-use Rattle.c_stores.specs.declared.stores.HeldNotice.{HeldNotice}
-use Rattle.c_stores.specs.declared.stores.HeldEntrance.{HeldEntrance}
-use Rattle.c_handles.specs.Calls.{Handle, Unused, Open, Closed, Handles, Call, OpensStore, Loads, Publishes, Reclaims}
-use Rattle.c_handles.specs.Calls.{CountsStore, ClosesStore, MakesNotice, ClosesNotice, MakesEntrance, ClosesEntrance}
-use Rattle.c_handles.specs.Calls.{MakesReader, Enters, EntersAfter, Leaves, Looks, LooksAt, CountsReader, ClosesReader}
-use Rattle.c_handles.specs.Calls.{AgreesWith}
-use Rattle.c_handles.specs.Calls.{IsOpen, IsClosed, IsUnused, Makes, Turns, HasNumbers, IsMadeAt, EntersIn}
-use Rattle.c_handles.specs.Calls.{EntersAfterIn, DoesToReaders, IsTrace, told_by_notice, told_by_entrance}
-use Rattle.c_handles.specs.HandleActs.{Look, ReaderAct, AreAnswered, looks_in, entry_acts, acts_at, acts_in}
-use Rattle.c_handles.proofs.Slots.{changed, here, opened_with}
+use Rattle.c_handles.proofs.Common.{◌≡◌, ℕ, ◌==◌, Bool, true, false, if◌then◌else◌, List, [], ◌∷◌, refl, sym, ap, ◌∙◌}
+use Rattle.c_handles.proofs.Common.{subst, inl, inr, Option, None, Some, MatchOption, LoadValue, joined, version_of}
+use Rattle.c_handles.proofs.Common.{StartsWith, SeenValue, begins_refl, begins_trans, begins_nil, no_fault, busy_fault}
+use Rattle.c_handles.proofs.Common.{memory_fault, reader_in, any_reader_in, HeldSet, Origin, Made, Lent, Left, Refused}
+use Rattle.c_handles.proofs.Common.{IsReaderFrom, IsEntered, IsEnteredAfter, IsLater, IsStillOut, IsBack, IsBackAfter}
+use Rattle.c_handles.proofs.Common.{IsAfter, HasLeft, IsLeft, Handle, Unused, Open, Closed, Handles, Call, MakesReader}
+use Rattle.c_handles.proofs.Common.{EntersAfter, Leaves, Looks, LooksAt, CountsReader, ClosesReader, AgreesWith, Makes}
+use Rattle.c_handles.proofs.Common.{Turns, HasNumbers, IsMadeAt, EntersIn, EntersAfterIn, DoesToReaders, IsTrace}
+use Rattle.c_handles.proofs.Common.{told_by_notice, told_by_entrance, Look, ReaderAct, AreAnswered, looks_in}
+use Rattle.c_handles.proofs.Common.{entry_acts, acts_at, acts_in}
+use Rattle.c_handles.specs.Calls.{Enters}
+use Rattle.c_handles.proofs.Slots.{opened_with, made_at, turned_at, closed_at}
 use Rattle.c_handles.proofs.Entries.{ReaderLeadsAll, leads_append, IsToldIn, entry_leads}
 use Rattle.c_handles.proofs.Answers.{IsIn, looks_answered}
 
@@ -75,38 +63,28 @@ in_version b told version fault looks (Lent r) f numbers none is answers =
       entry_leads b told version looks r.batches is.0 is.1 numbers.version_is (answers r.batches refl),
       begins_refl r.batches,
     )
-in_version b told version fault looks (Made set) f numbers none is answers = absurd is
-in_version b told version fault looks (Left r set) f numbers none is answers = absurd is
-in_version b told version fault looks Refused f numbers none is answers = absurd is
+in_version b told version fault looks _ f numbers none is answers = absurd is
 
 later_in : (b : List (List LoadValue)) (told : Option ℕ) (r : SeenValue) (o : Origin) (f : ℕ) → StartsWith r.batches b
     → IsLater r (record { origin = o; fault = f }) → MatchOption (reader_in o) ⊥ (λ r'. IsToldIn told r'.batches)
     → MatchOption (reader_in o) ⊥ (λ r'. StartsWith r'.batches b × IsToldIn told r'.batches)
 later_in b told r (Lent r') f seen is sees = (begins_trans r'.batches r.batches b is.1 seen, sees)
-later_in b told r (Made set) f seen is sees = absurd is
-later_in b told r (Left r' set) f seen is sees = absurd is
-later_in b told r Refused f seen is sees = absurd is
+later_in b told r _ f seen is sees = absurd is
 
 not_told : (r : SeenValue) (o : Origin) (f : ℕ) → IsLater r (record { origin = o; fault = f })
     → MatchOption (reader_in o) ⊥ (λ r'. IsToldIn None r'.batches)
 not_told r (Lent r') f is = tt
-not_told r (Made set) f is = absurd is
-not_told r (Left r' set) f is = absurd is
-not_told r Refused f is = absurd is
+not_told r _ f is = absurd is
 
 told_of : (n : SeenValue) (o : Origin) → MatchOption (reader_in o) ⊥ (λ r'. StartsWith r'.batches n.batches)
     → MatchOption (reader_in o) ⊥ (λ r'. IsToldIn (Some (version_of n.batches)) r'.batches)
 told_of n (Lent r') is = (n.batches, refl, is)
-told_of n (Made set) is = absurd is
-told_of n (Left r' set) is = absurd is
-told_of n Refused is = absurd is
+told_of n _ is = absurd is
 
 still_out : (b : List (List LoadValue)) (r : SeenValue) (o : Origin) (f : ℕ) → StartsWith r.batches b
     → IsStillOut r (record { origin = o; fault = f }) → HasSeenIn b o f
 still_out b r (Left r' set) f seen is = begins_trans r'.batches r.batches b is.1 seen
-still_out b r (Made set) f seen is = absurd is
-still_out b r (Lent r') f seen is = absurd is
-still_out b r Refused f seen is = absurd is
+still_out b r _ f seen is = absurd is
 
 -- what a call leaves as it was
 unmoved : (b : List (List LoadValue)) (told : Option ℕ) (version fault : ℕ) (looks : List Look) (o : Origin) (f : ℕ)
@@ -136,20 +114,8 @@ enters b version fault looks (Lent r) f new (later, none) numbers answers seen =
     (later_in b None r new.origin new.fault seen later (not_told r new.origin new.fault later)) answers
 enters b version fault looks (Left r set) f new is numbers answers seen =
     back b version fault looks r new seen is numbers answers
-enters b version fault looks (Made set) f new is numbers answers seen =
-    unmoved b None version fault looks (Made set) f new is numbers.fault_is seen.0 seen
-enters b version fault looks Refused f new is numbers answers seen =
-    unmoved b None version fault looks Refused f new is numbers.fault_is seen.0 seen
-
-enters_here : (b : List (List LoadValue)) (version fault : ℕ) (looks : List Look) (x y : Handle HeldSet)
-    → IsOpen (λ old. IsOpen (EntersIn version fault old) y) x → AnswersIn looks y → HasSeen b x
-    → Leads b (entry_acts None version fault looks) y
-enters_here b version fault looks Unused y is answers seen = absurd is
-enters_here b version fault looks (Closed a) y is answers seen = absurd is
-enters_here b version fault looks (Open a) Unused is answers seen = absurd is
-enters_here b version fault looks (Open a) (Closed c) is answers seen = absurd is
-enters_here b version fault looks (Open a) (Open c) is answers seen =
-    enters b version fault looks a.origin a.fault c is.entered is.numbers answers seen
+enters b version fault looks o f new is numbers answers seen =
+    unmoved b None version fault looks o f new is numbers.fault_is seen.0 seen
 
 -- ---- `enter_after`
 
@@ -166,9 +132,7 @@ after_here b version fault looks r n (Lent r') f seen later (inr (busy, same)) n
     refused_for b (Some (version_of n.batches)) version fault busy_fault looks
     (Open (record { origin = Lent r'; fault = f })) (numbers.fault_is ∙ busy) refl
     (begins_trans r'.batches r.batches b later.1 seen)
-after_here b version fault looks r n (Made set) f seen later is numbers answers = absurd later
-after_here b version fault looks r n (Left r' set) f seen later is numbers answers = absurd later
-after_here b version fault looks r n Refused f seen later is numbers answers = absurd later
+after_here b version fault looks r n _ f seen later is numbers answers = absurd later
 
 back_after : (b : List (List LoadValue)) (version fault : ℕ) (looks : List Look) (r n : SeenValue) (new : HeldSet)
     → StartsWith r.batches b → IsBackAfter r n new → HasNumbers new version fault → AnswersIn looks (Open new)
@@ -195,57 +159,31 @@ enters_after b None version fault looks (Left r set) f new is numbers answers se
     back b version fault looks r new seen is numbers answers
 enters_after b (Some n) version fault looks (Left r set) f new is numbers answers seen =
     back_after b version fault looks r n new seen is numbers answers
-enters_after b notice version fault looks (Made set) f new is numbers answers seen =
-    unmoved b (told_by_notice (record { notice = notice })) version fault looks (Made set) f new is numbers.fault_is
+enters_after b notice version fault looks o f new is numbers answers seen =
+    unmoved b (told_by_notice (record { notice = notice })) version fault looks o f new is numbers.fault_is
     seen.0 seen
-enters_after b notice version fault looks Refused f new is numbers answers seen =
-    unmoved b (told_by_notice (record { notice = notice })) version fault looks Refused f new is numbers.fault_is seen.0
-    seen
-
-enters_after_here : (b : List (List LoadValue)) (n : HeldNotice) (told : Option ℕ) (version fault : ℕ)
-    (looks : List Look) (x y : Handle HeldSet)
-    → IsOpen (λ old. IsOpen (EntersAfterIn n told version fault old) y) x → AnswersIn looks y → HasSeen b x
-    → Leads b (entry_acts told version fault looks) y
-enters_after_here b n told version fault looks Unused y is answers seen = absurd is
-enters_after_here b n told version fault looks (Closed a) y is answers seen = absurd is
-enters_after_here b n told version fault looks (Open a) Unused is answers seen = absurd is
-enters_after_here b n told version fault looks (Open a) (Closed c) is answers seen = absurd is
-enters_after_here b n told version fault looks (Open a) (Open c) is answers seen = subst
-    (λ (t : Option ℕ). Leads b (entry_acts t version fault looks) (Open c)) (sym is.told_is)
-    (enters_after b n.notice version fault looks a.origin a.fault c is.entered is.numbers answers seen)
 
 -- ---- a new reader
 
-made_at : (b : List (List LoadValue)) (entrance : Option SeenValue) (version fault : ℕ) (looks : List Look) (o : Origin)
+made_new : (b : List (List LoadValue)) (entrance : Option SeenValue) (version fault : ℕ) (looks : List Look) (o : Origin)
     (f : ℕ) → IsReaderFrom (record { entrance = entrance }) (record { origin = o; fault = f })
     → HasNumbers (record { origin = o; fault = f }) version fault
     → AnswersIn looks (Open (record { origin = o; fault = f })) → b ≡ []
     → Leads b (entry_acts (told_by_entrance (record { entrance = entrance })) version fault looks)
     (Open (record { origin = o; fault = f }))
-made_at b None version fault looks (Lent r) f is numbers answers none = absurd is.1
-made_at b (Some e) version fault looks (Lent r) f is numbers answers none =
+made_new b None version fault looks (Lent r) f is numbers answers none = absurd is.1
+made_new b (Some e) version fault looks (Lent r) f is numbers answers none =
     in_version b (Some (version_of e.batches)) version fault looks (Lent r) f numbers is.0 (
       subst (λ (l : List (List LoadValue)). StartsWith r.batches l) (sym none) (begins_nil r.batches),
       (e.batches, refl, is.1.1),
     ) answers
-made_at b entrance version fault looks (Made set) f is numbers answers none =
+made_new b entrance version fault looks (Made set) f is numbers answers none =
     refused_for b (told_by_entrance (record { entrance = entrance })) version fault memory_fault looks
     (Open (record { origin = Made set; fault = f })) (numbers.fault_is ∙ is.fault_is) refl (is.fault_is, none)
-made_at b entrance version fault looks (Left r set) f is numbers answers none = absurd (cc (is.refused))
-made_at b entrance version fault looks Refused f is numbers answers none =
+made_new b entrance version fault looks (Left r set) f is numbers answers none = absurd (cc (is.refused))
+made_new b entrance version fault looks Refused f is numbers answers none =
     refused_for b (told_by_entrance (record { entrance = entrance })) version fault memory_fault looks
     (Open (record { origin = Refused; fault = f })) (numbers.fault_is ∙ is.fault_is) refl (is.fault_is, none)
-
-made_here : (b : List (List LoadValue)) (e : HeldEntrance) (told : Option ℕ) (version fault : ℕ) (looks : List Look)
-    (x y : Handle HeldSet) → IsUnused x → IsOpen (IsMadeAt e told version fault) y → AnswersIn looks y → HasSeen b x
-    → Leads b (entry_acts told version fault looks) y
-made_here b e told version fault looks (Open a) y unused is answers seen = absurd unused
-made_here b e told version fault looks (Closed a) y unused is answers seen = absurd unused
-made_here b e told version fault looks Unused Unused unused is answers seen = absurd is
-made_here b e told version fault looks Unused (Closed c) unused is answers seen = absurd is
-made_here b e told version fault looks Unused (Open c) unused is answers seen = subst
-    (λ (t : Option ℕ). Leads b (entry_acts t version fault looks) (Open c)) (sym is.told_is)
-    (made_at b e.entrance version fault looks c.origin c.fault is.made is.numbers answers seen)
 
 -- ---- `leave`, and the end of a reader
 
@@ -253,32 +191,13 @@ left_in_place : (b : List (List LoadValue)) (r : SeenValue) (o : Origin) (f : �
     → HasLeft r o → StartsWith r.batches b → HasSeenIn b o f
 left_in_place b r (Left r' set) f is seen =
     subst (λ (x : SeenValue). StartsWith x.batches b) (sym is.0) seen
-left_in_place b r (Made set) f is seen = absurd is
-left_in_place b r (Lent r') f is seen = absurd is
-left_in_place b r Refused f is seen = absurd is
+left_in_place b r _ f is seen = absurd is
 
 leaves : (b : List (List LoadValue)) (o : Origin) (f : ℕ) (new : HeldSet)
     → IsLeft (record { origin = o; fault = f }) new → HasSeenIn b o f → HasSeenIn b new.origin new.fault
 leaves b (Lent r) f new is seen = left_in_place b r new.origin new.fault is.0 seen
 leaves b (Left r set) f new is seen = left_in_place b r new.origin new.fault is.0 seen
-leaves b (Made set) f new is seen = subst (λ (x : HeldSet). HasSeenIn b x.origin x.fault) (sym is) seen
-leaves b Refused f new is seen = subst (λ (x : HeldSet). HasSeenIn b x.origin x.fault) (sym is) seen
-
-leaves_here : (b : List (List LoadValue)) (x y : Handle HeldSet) → IsOpen (λ old. IsOpen (IsLeft old) y) x
-    → HasSeen b x → HasSeen b y
-leaves_here b Unused y is seen = absurd is
-leaves_here b (Closed a) y is seen = absurd is
-leaves_here b (Open a) Unused is seen = absurd is
-leaves_here b (Open a) (Closed c) is seen = absurd is
-leaves_here b (Open a) (Open c) is seen = leaves b a.origin a.fault c is seen
-
-closes_here : (b : List (List LoadValue)) (x y : Handle HeldSet) → IsOpen (λ old. IsClosed (λ last. last ≡ old) y) x
-    → HasSeen b x → HasSeen b y
-closes_here b Unused y is seen = absurd is
-closes_here b (Closed a) y is seen = absurd is
-closes_here b (Open a) Unused is seen = absurd is
-closes_here b (Open a) (Open c) is seen = absurd is
-closes_here b (Open a) (Closed c) is seen = subst (λ (x : HeldSet). HasSeenIn b x.origin x.fault) (sym is) seen
+leaves b _ f new is seen = subst (λ (x : HeldSet). HasSeenIn b x.origin x.fault) (sym is) seen
 
 -- ---- a call, and a trace
 
@@ -290,41 +209,32 @@ same_readers b k before after same seen =
 acts_step : (b : List (List LoadValue)) (k : ℕ) (h : Handles) (call : Call) (next : ℕ → Handle HeldSet)
     (looks : List Look) → DoesToReaders h call next → AnswersIn looks (next k) → HasSeen b (h.readers k)
     → Leads b (acts_at k call looks) (next k)
-acts_step b k h (OpensStore n fault) next looks is answers seen = same_readers b k h.readers next is seen
-acts_step b k h (Loads n domain locale opened fault) next looks is answers seen =
-    same_readers b k h.readers next is seen
-acts_step b k h (Publishes n fault) next looks is answers seen = same_readers b k h.readers next is seen
-acts_step b k h (Reclaims n) next looks is answers seen = same_readers b k h.readers next is seen
-acts_step b k h (CountsStore n which number) next looks is answers seen = same_readers b k h.readers next is seen
-acts_step b k h (ClosesStore n) next looks is answers seen = same_readers b k h.readers next is seen
-acts_step b k h (MakesNotice n notice) next looks is answers seen = same_readers b k h.readers next is seen
-acts_step b k h (ClosesNotice notice) next looks is answers seen = same_readers b k h.readers next is seen
-acts_step b k h (MakesEntrance n entrance) next looks is answers seen = same_readers b k h.readers next is seen
-acts_step b k h (ClosesEntrance entrance) next looks is answers seen = same_readers b k h.readers next is seen
 acts_step b k h (MakesReader entrance n told version fault) next looks is answers seen =
     let e = opened_with (λ e. Makes (IsMadeAt e told version fault) n h.readers next) (h.entrances entrance) is in
-    changed k n h.readers next (λ t x. Leads b (if t then entry_acts told version fault looks else []) x) e.1.others
-    (idle b (h.readers k) seen)
-    (λ same. made_here b e.0 told version fault looks (h.readers k) (next k)
-    (here k n h.readers next (λ x y. IsUnused x) same e.1.unused)
-    (here k n h.readers next (λ x y. IsOpen (IsMadeAt e.0 told version fault) y) same e.1.made) answers seen)
+    made_at (IsMadeAt e.0 told version fault) k n h.readers next
+    (λ t x y. AnswersIn looks y → HasSeen b x → Leads b (if t then entry_acts told version fault looks else []) y) e.1
+    (λ answers seen. idle b (h.readers k) seen)
+    (λ r made answers seen. subst (λ (t : Option ℕ). Leads b (entry_acts t version fault looks) (Open r))
+    (sym made.told_is)
+    (made_new b e.0.entrance version fault looks r.origin r.fault made.made made.numbers answers seen)) answers seen
 acts_step b k h (Enters n version fault) next looks is answers seen =
-    changed k n h.readers next (λ t x. Leads b (if t then entry_acts None version fault looks else []) x) is.others
-    (idle b (h.readers k) seen)
-    (λ same. enters_here b version fault looks (h.readers k) (next k)
-    (here k n h.readers next (λ x y. IsOpen (λ old. IsOpen (EntersIn version fault old) y) x) same is.turned) answers
-    seen)
+    turned_at (EntersIn version fault) k n h.readers next
+    (λ t x y. AnswersIn looks y → HasSeen b x → Leads b (if t then entry_acts None version fault looks else []) y) is
+    (λ answers seen. idle b (h.readers k) seen)
+    (λ a c one answers seen. enters b version fault looks a.origin a.fault c one.entered one.numbers answers seen)
+    answers seen
 acts_step b k h (EntersAfter n notice told version fault) next looks is answers seen =
     let m = opened_with (λ m. Turns (EntersAfterIn m told version fault) n h.readers next) (h.notices notice) is in
-    changed k n h.readers next (λ t x. Leads b (if t then entry_acts told version fault looks else []) x) m.1.others
-    (idle b (h.readers k) seen)
-    (λ same. enters_after_here b m.0 told version fault looks (h.readers k) (next k)
-    (here k n h.readers next (λ x y. IsOpen (λ old. IsOpen (EntersAfterIn m.0 told version fault old) y) x) same
-    m.1.turned) answers seen)
+    turned_at (EntersAfterIn m.0 told version fault) k n h.readers next
+    (λ t x y. AnswersIn looks y → HasSeen b x → Leads b (if t then entry_acts told version fault looks else []) y) m.1
+    (λ answers seen. idle b (h.readers k) seen)
+    (λ a c one answers seen. subst (λ (t : Option ℕ). Leads b (entry_acts t version fault looks) (Open c))
+    (sym one.told_is)
+    (enters_after b m.0.notice version fault looks a.origin a.fault c one.entered one.numbers answers seen)) answers
+    seen
 acts_step b k h (Leaves n) next looks is answers seen =
-    changed k n h.readers next (λ t x. Leads b [] x) is.others (idle b (h.readers k) seen)
-    (λ same. idle b (next k) (leaves_here b (h.readers k) (next k)
-    (here k n h.readers next (λ x y. IsOpen (λ old. IsOpen (IsLeft old) y) x) same is.turned) seen))
+    turned_at IsLeft k n h.readers next (λ t x y. HasSeen b x → Leads b [] y) is (idle b (h.readers k))
+    (λ a c left seen. idle b (Open c) (leaves b a.origin a.fault c left seen)) seen
 acts_step b k h (Looks n domain languages question text) next looks is answers seen =
     same_readers b k h.readers next is.1 seen
 acts_step b k h (LooksAt n domain languages places question text) next looks is answers seen =
@@ -332,9 +242,9 @@ acts_step b k h (LooksAt n domain languages places question text) next looks is 
 acts_step b k h (CountsReader n which number) next looks is answers seen = same_readers b k h.readers next is.1 seen
 acts_step b k h (AgreesWith store n) next looks is answers seen = same_readers b k h.readers next is.1 seen
 acts_step b k h (ClosesReader n) next looks is answers seen =
-    changed k n h.readers next (λ t x. Leads b [] x) is.others (idle b (h.readers k) seen)
-    (λ same. idle b (next k) (closes_here b (h.readers k) (next k)
-    (here k n h.readers next (λ x y. IsOpen (λ old. IsClosed (λ last. last ≡ old) y) x) same is.closed) seen))
+    closed_at k n h.readers next (λ t x y. HasSeen b x → Leads b [] y) is (idle b (h.readers k))
+    (λ a seen. idle b (Closed a) seen) seen
+acts_step b k h _ next looks is answers seen = same_readers b k h.readers next is seen
 
 pub acts_lead : (b : List (List LoadValue)) (k : ℕ) (calls : List Call) (h last : Handles) → IsTrace h calls last
     → HasSeen b (h.readers k) → Leads b (acts_in k calls) (last.readers k)

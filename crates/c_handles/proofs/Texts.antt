@@ -1,19 +1,14 @@
 -- The texts of a reader's look-ups, at the steps of a history.
+use Rattle.c_handles.proofs.Common.{◌≡◌, ℕ, ◌+◌, ◌==◌, Bool, if◌then◌else◌, List, [], ◌∷◌, ◌++◌, map, length, sym, ap}
+use Rattle.c_handles.proofs.Common.{◌∙◌, subst, arith, length-append, ⊎_elim, ⊤, LoadValue, joined, version_of}
+use Rattle.c_handles.proofs.Common.{StartsWith, joined-append, begins_trans, Event, State, Enter, Learn, after}
+use Rattle.c_handles.proofs.Common.{state_from, ReaderAct, Entered, Told, AreAnswered, IsStepOf, by_test, either_begins}
 use Rattle.std.specs.List.{AllZip}
-use Rattle.std.proofs.Common.{◌≡◌, ℕ, ◌+◌, ◌==◌, Bool, if◌then◌else◌, List, [], ◌∷◌, ◌++◌, map, length, sym}
-use Rattle.std.proofs.Common.{ap, ◌∙◌, subst, arith, length-append, ⊎_elim}
-use Rattle.std.specs.Prelude.{⊤}
 use Rattle.std.proofs.lemmas.List.{append-nil}
-use Rattle.live_set.specs.Loads.{LoadValue}
-use Rattle.live_loads.specs.Batches.{joined, version_of, StartsWith}
-use Rattle.live_loads.proofs.Joining.{joined-append, begins_trans}
-use Rattle.live_versions.specs.History.{Event, State, Accept, Refuse, Publish, Enter, Learn, after, state_from}
 use Rattle.desks.proofs.Runs.{grows}
 use Rattle.life.specs.Life.{Met, Entry, Notice, met_in, met}
 use Rattle.life.specs.Life.{IsStepOf as IsLifeStep}
-use Rattle.c_handles.specs.HandleActs.{ReaderAct, Entered, Told, AreAnswered, IsStepOf}
-use Rattle.c_handles.proofs.Slots.{by_test}
-use Rattle.c_handles.proofs.Entries.{ReaderLeads, ReaderLeadsAll, leads_all_begins, either_begins, plain}
+use Rattle.c_handles.proofs.Entries.{ReaderLeads, ReaderLeadsAll, leads_all_begins, plain}
 
 -- ---- two beginnings with the same number of loads have the same loads
 
@@ -52,12 +47,10 @@ one_within fin t m ms is all =
 
 met_within : (reader : ℕ) (s : State) (e : Event) (fin : List (List LoadValue)) (ms : List Met)
     → StartsWith fin s.batches → AreWithin fin ms → AreWithin fin (met_in reader s e ++ ms)
-met_within reader s (Accept load) fin ms is all = all
-met_within reader s Refuse fin ms is all = all
-met_within reader s Publish fin ms is all = all
 met_within reader s (Enter other version) fin ms is all =
     one_within fin (reader == other) (Entry s.batches (s.seen reader)) ms is all
 met_within reader s (Learn other version) fin ms is all = one_within fin (reader == other) (Notice version) ms tt all
+met_within reader s _ fin ms is all = all
 
 pub all_within : (reader : ℕ) (s : State) (events : List Event)
     → AreWithin (state_from s events).batches (met reader s events)
@@ -73,18 +66,16 @@ step_with_texts : (fin a : List (List LoadValue)) (act : ReaderAct) (next : List
 step_with_texts fin a (Entered version looks) next (Entry batches seen) leads far within (here, no_less, none) =
     let same : joined next ≡ joined batches = same_loads fin next batches far within (sym leads.version_is ∙ here) in
     (here, no_less, subst (λ (l : List LoadValue). AreAnswered l looks) same leads.answered)
-step_with_texts fin a (Entered version looks) next (Notice told) leads far within is = absurd is
-step_with_texts fin a (Told version) next (Entry batches seen) leads far within is = absurd is
 step_with_texts fin a (Told version) next (Notice told) leads far within is = is
+step_with_texts fin a _ next _ leads far within is = absurd is
 
 pub with_texts : (fin a : List (List LoadValue)) (acts : List ReaderAct) (end : List (List LoadValue)) (ms : List Met)
     → ReaderLeadsAll a acts end → StartsWith fin end → AreWithin fin ms → AllZip IsLifeStep (map plain acts) ms
     → AllZip IsStepOf acts ms
 with_texts fin a [] end [] leads far within steps = tt
-with_texts fin a [] end (m ∷ ms) leads far within steps = absurd steps
-with_texts fin a (act ∷ acts) end [] leads far within steps = absurd steps
 with_texts fin a (act ∷ acts) end (m ∷ ms) (next, one, rest) far within steps = (
   step_with_texts fin a act next m one
       (begins_trans fin end next far (leads_all_begins next acts end rest)) within.0 steps.0,
   with_texts fin next acts end ms rest far within.1 steps.1,
 )
+with_texts fin a _ end _ leads far within steps = absurd steps
