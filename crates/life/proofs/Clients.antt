@@ -27,10 +27,8 @@ kept_all (c ∷ cs) = (kept_refl c, kept_all cs)
 pub kept_then : (cs ds es : List Client) → AllZip KeepsClient cs ds → AllZip KeepsClient ds es
     → AllZip KeepsClient cs es
 kept_then [] [] [] h k = tt
-kept_then [] [] (e ∷ es) h k = absurd k
-kept_then (c ∷ cs) (d ∷ ds) [] h k = absurd k
 kept_then (c ∷ cs) (d ∷ ds) (e ∷ es) h k = (kept_trans c d e h.0 k.0, kept_then cs ds es h.1 k.1)
-kept_then _ _ es h k = absurd h
+kept_then _ _ _ h k = absurd (search)
 
 pub learnt_kept : (start : SeenValue) (cs ds : List Client) → AllZip (HasLearnt start) cs ds → AllZip KeepsClient cs ds
 learnt_kept start [] [] h = tt
@@ -98,11 +96,7 @@ pub served_all : (start end : SeenValue) (cs ds es fs : List Client) → AllZip 
 served_all start end [] [] [] [] l k a s = tt
 served_all start end (c ∷ cs) (d ∷ ds) (e ∷ es) (f ∷ fs) l k a s =
     (served_one start end c d e f l.0 k.0 a.0 s.0, served_all start end cs ds es fs l.1 k.1 a.1 s.1)
-served_all start end [] [] (e ∷ es) fs l k a s = absurd k
-served_all start end (c ∷ cs) (d ∷ ds) [] fs l k a s = absurd k
-served_all start end [] [] [] (f ∷ fs) l k a s = absurd s
-served_all start end (c ∷ cs) (d ∷ ds) (e ∷ es) [] l k a s = absurd s
-served_all start end _ _ es fs l k a s = absurd l
+served_all start end _ _ _ _ l k a s = absurd (search)
 
 -- ---- what it adds
 
@@ -118,11 +112,9 @@ pub acted_all : (start end : SeenValue) (acts : List (List Act)) (cs ds : List C
     → AllZip HasActed acts (seen_by_all cs) → AllZip (IsServed start end) cs ds
     → AllZip HasActed (with_run (version_of start.batches) (version_of end.batches) acts ds) (seen_by_all ds)
 acted_all start end [] [] [] acted served = tt
-acted_all start end [] [] (d ∷ ds) acted served = absurd served
-acted_all start end (a ∷ more) (c ∷ cs) [] acted served = absurd served
 acted_all start end (a ∷ more) (c ∷ cs) (d ∷ ds) acted served =
     (acted_one start end a c d acted.0 served.0, acted_all start end more cs ds acted.1 served.1)
-acted_all start end _ _ ds acted served = absurd acted
+acted_all start end _ _ _ acted served = absurd (search)
 
 pub settled_all : (start end : SeenValue) (cs ds : List Client) → AllZip (IsServed start end) cs ds
     → AllByRecursion (StartsWith end.batches) (seen_by_all ds)

@@ -1,4 +1,4 @@
--- What the proofs use of the libraries, of the crates below and of this crate's definitions.
+-- What three or more proofs use of the libraries, of the crates below and of this crate's definitions.
 pub use Rattle.std.specs.List.{All, AllByRecursion, AllZip}
 pub use Rattle.std.proofs.Common.{[], ◌++◌, ◌+◌, ◌<◌, ◌==◌, ◌∙◌, ◌∷◌, ◌≡◌, ◌≤◌, ◌⊎◌, Bool, Err, List, None, Ok, Option}
 pub use Rattle.std.proofs.Common.{Some, String, ap, append_assoc, arith, drop, false, get_or, if◌then◌else◌, inl, inr}

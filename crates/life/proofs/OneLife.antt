@@ -28,6 +28,41 @@ record AllWoven (most first : ℕ) (events : List Event) (acts : List (List Act)
       → AllZip IsStepOf (acts_of acts worker) (met reader opened history)
   pub seen : (reader worker : ℕ) → reader ≡ first + worker → (state_of history).seen reader ≡ seen_of readers worker
 
+-- one reader's acts were put in, and then those of the rest
+module _ {most first : ℕ} {events : List Event} {a : List Act} {more : List (List Act)}
+    {rs : List (List (List LoadValue))} (r : List (List LoadValue))
+    (one : Woven most first opened events a (version_of r)) (rest : AllWoven most (first + 1) one.history more rs) where
+  work_of : without_entries rest.history ≡ without_entries events
+  work_of = rest.work ∙ one.work
+
+  others_of : (reader : ℕ) → reader < first → met reader opened rest.history ≡ met reader opened events
+  others_of reader less =
+      let no : (reader == first) ≡ false = grind (arith, nat_tests, less) in
+      rest.others reader (omega (arith, less)) ∙ one.others reader no
+
+  others_seen_of : (reader : ℕ) → reader < first
+      → (state_of rest.history).seen reader ≡ (state_of events).seen reader
+  others_seen_of reader less =
+      let no : (reader == first) ≡ false = grind (arith, nat_tests, less) in
+      rest.others_seen reader (omega (arith, less)) ∙ one.others_seen reader no
+
+  mine_of : (reader worker : ℕ) → reader ≡ first + worker
+      → AllZip IsStepOf (acts_of (a ∷ more) worker) (met reader opened rest.history)
+  mine_of reader zero this =
+      let same : reader ≡ first = omega (arith, this) in
+      let there : met reader opened rest.history ≡ met first opened one.history = rest.others reader
+      (omega (arith, this)) ∙ ap (λ (k : ℕ). met k opened one.history) same in
+      subst (λ (l : List Met). AllZip IsStepOf a l) (sym there) one.mine
+  mine_of reader (suc worker) this = rest.mine reader worker (omega (arith, this))
+
+  seen_is : (reader worker : ℕ) → reader ≡ first + worker
+      → (state_of rest.history).seen reader ≡ seen_of (r ∷ rs) worker
+  seen_is reader zero this =
+      let same : reader ≡ first = omega (arith, this) in
+      rest.others_seen reader (omega (arith, this)) ∙ (ap (λ (k : ℕ). (state_of one.history).seen k) same
+      ∙ one.seen)
+  seen_is reader (suc worker) this = rest.seen reader worker (omega (arith, this))
+
 weave_all : (most first : ℕ) (events : List Event) (fin : List (List LoadValue)) (acts : List (List Act))
     (readers : List (List (List LoadValue))) → Goes most opened events → AreUnder first events
     → fin ≡ (state_of events).batches → AllZip HasActed acts readers → AllByRecursion (StartsWith fin) readers
@@ -52,49 +87,12 @@ weave_all most first events fin (a ∷ more) (r ∷ rs) goes under is acted sett
       history = rest.history;
       goes = rest.goes;
       level = level_trans (state_of rest.history) (state_of one.history) (state_of events) rest.level one.level;
-      work = work_of one rest;
-      others = λ reader less. others_of one rest reader less;
-      others_seen = λ reader less. others_seen_of one rest reader less;
-      mine = λ reader worker this. mine_of one rest reader worker this;
-      seen = λ reader worker this. seen_is one rest reader worker this;
-    } where
-      work_of : (one : Woven most first opened events a (version_of r))
-          (rest : AllWoven most (first + 1) one.history more rs)
-          → without_entries rest.history ≡ without_entries events
-      work_of one rest = rest.work ∙ one.work
-
-      others_of : (one : Woven most first opened events a (version_of r))
-          (rest : AllWoven most (first + 1) one.history more rs) (reader : ℕ) → reader < first
-          → met reader opened rest.history ≡ met reader opened events
-      others_of one rest reader less =
-          let no : (reader == first) ≡ false = grind (arith, nat_tests, less) in
-          rest.others reader (omega (arith, less)) ∙ one.others reader no
-
-      others_seen_of : (one : Woven most first opened events a (version_of r))
-          (rest : AllWoven most (first + 1) one.history more rs) (reader : ℕ) → reader < first
-          → (state_of rest.history).seen reader ≡ (state_of events).seen reader
-      others_seen_of one rest reader less =
-          let no : (reader == first) ≡ false = grind (arith, nat_tests, less) in
-          rest.others_seen reader (omega (arith, less)) ∙ one.others_seen reader no
-
-      mine_of : (one : Woven most first opened events a (version_of r))
-          (rest : AllWoven most (first + 1) one.history more rs) (reader worker : ℕ) → reader ≡ first + worker
-          → AllZip IsStepOf (acts_of (a ∷ more) worker) (met reader opened rest.history)
-      mine_of one rest reader zero this =
-          let same : reader ≡ first = omega (arith, this) in
-          let there : met reader opened rest.history ≡ met first opened one.history = rest.others reader
-          (omega (arith, this)) ∙ ap (λ (k : ℕ). met k opened one.history) same in
-          subst (λ (l : List Met). AllZip IsStepOf a l) (sym there) one.mine
-      mine_of one rest reader (suc worker) this = rest.mine reader worker (omega (arith, this))
-
-      seen_is : (one : Woven most first opened events a (version_of r))
-          (rest : AllWoven most (first + 1) one.history more rs) (reader worker : ℕ) → reader ≡ first + worker
-          → (state_of rest.history).seen reader ≡ seen_of (r ∷ rs) worker
-      seen_is one rest reader zero this =
-          let same : reader ≡ first = omega (arith, this) in
-          rest.others_seen reader (omega (arith, this)) ∙ (ap (λ (k : ℕ). (state_of one.history).seen k) same
-          ∙ one.seen)
-      seen_is one rest reader (suc worker) this = rest.seen reader worker (omega (arith, this))
+      work = work_of r one rest;
+      others = others_of r one rest;
+      others_seen = others_seen_of r one rest;
+      mine = mine_of r one rest;
+      seen = seen_is r one rest;
+    }
 weave_all most first events fin _ _ goes under is acted settled = absurd acted
 
 pub one_life : HasOneLife

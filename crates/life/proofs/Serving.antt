@@ -158,11 +158,9 @@ pub served_all : (start end : SeenValue) (acts : List (List Act)) (before done :
     → AllZip (IsServed start end) before done
     → AllZip HasActed (with_served start end acts before done) (seen_at done)
 served_all start end [] [] [] begins acted served = tt
-served_all start end [] [] (x ∷ xs) begins acted served = absurd served
-served_all start end (a ∷ more) (d ∷ ds) [] begins acted served = absurd served
 served_all start end (a ∷ more) (d ∷ ds) (x ∷ xs) begins acted served =
     (served_one start end a d x begins acted.0 served.0, served_all start end more ds xs begins acted.1 served.1)
-served_all start end _ _ done begins acted served = absurd acted
+served_all start end _ _ _ begins acted served = absurd (search)
 
 pub settled_all : (start end : SeenValue) (before done : List Desk) → AllZip (IsServed start end) before done
     → AllByRecursion (StartsWith end.batches) (seen_at done)
