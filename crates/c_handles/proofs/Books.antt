@@ -34,10 +34,7 @@ keeps_on Is on (Open u) (Open v) (Open w) a b = on u v w a b
 keeps_on Is on (Open u) (Open v) (Closed w) a b = on u v w a b
 keeps_on Is on (Open u) (Closed v) (Closed w) a b = on u v w a b
 keeps_on Is on (Closed u) (Closed v) (Closed w) a b = on u v w a b
-keeps_on Is on (Open u) Unused z a b = absurd a
-keeps_on Is on (Closed u) Unused z a b = absurd a
-keeps_on Is on (Closed u) (Open v) z a b = absurd a
-keeps_on Is on _ _ _ a b = absurd b
+keeps_on Is on _ _ _ a b = absurd (search)
 
 -- handle k, by what happened to handle n
 made_keeps : {V : Type 0} (Is : V → V → Type 0) → ((v : V) → Is v v) → {New : V → Type 0} (k n : ℕ)
@@ -75,9 +72,8 @@ same_store (Some s) = refl
 
 store_on : (p q r : Option StoreValue) → KeepsStore p q → KeepsStore q r → KeepsStore p r
 store_on None q r a b = tt
-store_on (Some s) None r a b = absurd a
-store_on (Some s) (Some t) None a b = absurd b
 store_on (Some s) (Some t) (Some u) a b = b ∙ a
+store_on _ _ _ a b = absurd (search)
 
 load_book : (s t : StoreValue) (domain locale : List ℕ) (map : List Entry) (fault : ℕ)
     → IsLoad s domain locale map t fault → t.seen.book ≡ s.seen.book

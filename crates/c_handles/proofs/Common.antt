@@ -1,4 +1,4 @@
--- What the proofs use of the libraries, of the crates below and of this crate's definitions.
+-- What three or more proofs use of the libraries, of the crates below and of this crate's definitions.
 pub use Rattle.std.specs.Arc.{arc_value}
 pub use Rattle.std.specs.Prelude.{⊤}
 pub use Rattle.std.specs.declared.alloc.Global.{Global}
