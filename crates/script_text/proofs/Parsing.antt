@@ -58,11 +58,10 @@ onto_none ended (r ∷ rs) = refl
 -- one more command
 one_more : (g : Gathered) (c : Command) (cs : List Command) → g.ended ++ onto_open g (rounds_of (c ∷ cs))
     ≡ (gathered g c).ended ++ onto_open (gathered g c) (rounds_of cs)
-one_more g (Load load) cs = ap (λ rs. g.ended ++ rs) (onto_round g (Load load) cs refl refl (λ p. refl))
-one_more g (Ask worker query) cs = ap (λ rs. g.ended ++ rs) (onto_round g (Ask worker query) cs refl refl (λ p. refl))
 one_more g Go cs = ap (λ r. g.ended ++ (r ∷ rounds_of cs)) (both_empty g.current)
     ∙ sym (append_assoc g.ended (g.current ∷ []) (rounds_of cs))
     ∙ ap (λ rs. (g.ended ++ g.current ∷ []) ++ rs) (onto_none (g.ended ++ g.current ∷ []) (rounds_of cs))
+one_more g c cs = ap (λ rs. g.ended ++ rs) (onto_round g c cs refl refl (λ p. refl))
 
 more : (commands : List Command) (g : Gathered) (cs : List Command) → g.ended
     ++ onto_open g (rounds_of (commands ++ cs)) ≡ (fold gathered g commands).ended
