@@ -1,28 +1,17 @@
 -- What desks are asked, and what they have answered.
-use Rattle.std.proofs.Common.{◌≡◌, ◌≢◌, ◌∙◌, refl, sym, ap, ℕ, zero, suc, ◌+◌, ◌<◌, ◌≤◌, max, List, [], ◌∷◌, drop, ◌++◌}
-use Rattle.std.proofs.Common.{length, take, set, All, arith, length-append, get_or, Bool, false}
-use Rattle.std.specs.Prelude.{nat_lt, ◌||◌}
-use Rattle.std.proofs.Math.Seq.{take-append_seam}
-use Rattle.std.proofs.lemmas.List.{append-nil, length-map, take_all}
+use Rattle.catserve.proofs.Common.{◌≡◌, ◌≢◌, ◌∙◌, refl, sym, ap, ℕ, zero, suc, ◌+◌, ◌<◌, ◌≤◌, max, List, [], ◌∷◌, drop}
+use Rattle.catserve.proofs.Common.{◌++◌, length, take, set, All, arith, length-append, get_or, Bool, false, nat_lt}
+use Rattle.catserve.proofs.Common.{◌||◌, take-append_seam, append-nil, length-map, take_all, false≢true, lt-ltb, ne_eqb}
+use Rattle.catserve.proofs.Common.{eq-eqb, AllZip, list_any, LoadValue, QueryValue, IsAnswer, joined, version_of}
+use Rattle.catserve.proofs.Common.{SeenValue, StoreValue, Desk, QuestionValue, query_for, queries_for, answer_line}
+use Rattle.catserve.proofs.Common.{Answers, AnswersInTurn, readers_of, AreAsked, GivesOne, answer_lines, desk_lines}
+use Rattle.catserve.proofs.Common.{is_asked, IsFreed, AreReady, HaveBook}
 use Rattle.std.proofs.lemmas.List.Elements.{All-nil, All-cons, filter_map-append}
-use Rattle.std.proofs.lemmas.Bool.{false≢true, lt-ltb, ne_eqb, eq-eqb}
-use Rattle.std.specs.List.{AllZip, list_any}
 use Rattle.std.specs.String.{string_bytes}
-use Rattle.live_set.specs.Loads.{LoadValue}
-use Rattle.live_set.specs.Asks.{QueryValue, IsAnswer}
-use Rattle.live_versions.specs.Batches.{joined, version_of}
-use Rattle.live_versions.specs.Seen.{SeenValue}
-use Rattle.live_versions.specs.Store.{StoreValue}
 use Rattle.desks.specs.Jobs.{JobValue, Outcome, HasDone, after_publish}
 use Rattle.desks.specs.Answers.{Answered}
 use Rattle.desks.specs.Desks.{IsServed}
 use Rattle.desks.specs.declared.desk.Answer.{Answer}
-use Rattle.desks.specs.declared.desk.Desk.{Desk}
-use Rattle.script_text.specs.Script.{QuestionValue, query_for, queries_for}
-use Rattle.catserve.specs.Output.{answer_line}
-use Rattle.catserve.specs.Rounds.{Answers, AnswersInTurn}
-use Rattle.catserve.specs.Asking.{readers_of, AreAsked, GivesOne, answer_lines, desk_lines, is_asked, IsFreed}
-use Rattle.catserve.specs.Running.{AreReady, HaveBook}
 use Rattle.live_loads.proofs.Joining.{joined-append}
 
 -- ---- questions

@@ -1,6 +1,5 @@
 -- Lists that match place by place.
-use Rattle.std.proofs.Common.{List, [], ◌∷◌, ◌++◌}
-use Rattle.std.specs.List.{AllZip}
+use Rattle.catserve.proofs.Common.{List, [], ◌∷◌, ◌++◌, AllZip}
 
 pub AllZip-snoc : {A B : Type 0} (R : A → B → Type 0) (xs : List A) (ys : List B) (x : A) (y : B) → AllZip R xs ys
     → R x y → AllZip R (xs ++ x ∷ []) (ys ++ y ∷ [])

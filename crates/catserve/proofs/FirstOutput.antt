@@ -1,10 +1,6 @@
 -- The output of a text's first rounds is a front of the output of the text.
-use Rattle.std.proofs.Common.{◌≡◌, ◌∙◌, refl, sym, ap, ℕ, List, [], ◌∷◌, ◌++◌, append_assoc}
-use Rattle.live_set.specs.Loads.{LoadValue}
-use Rattle.script_text.specs.Script.{RoundValue, ScriptValue}
-use Rattle.script_text.specs.Texts.{IsScript}
-use Rattle.catserve.specs.Rounds.{HasOutput, PlaysAll}
-use Rattle.catserve.specs.Laws.{HaveFirstOutput, IsInFront}
+use Rattle.catserve.proofs.Common.{◌≡◌, ◌∙◌, refl, sym, ap, ℕ, List, [], ◌∷◌, ◌++◌, append_assoc, LoadValue, RoundValue}
+use Rattle.catserve.proofs.Common.{ScriptValue, IsScript, HasOutput, PlaysAll, HaveFirstOutput, IsInFront}
 use Rattle.catserve.proofs.OneOutput.{after_one, round_one}
 
 some_first : (workers : ℕ) (before : List LoadValue) (rounds more : List RoundValue) (output : List ℕ)

@@ -1,29 +1,18 @@
 -- Lines that are taken off an input.
-use Rattle.std.proofs.Common.{◌≡◌, ◌∙◌, refl, sym, ap, subst, ℕ, zero, suc, ◌+◌, ◌-◌, ◌<◌, ◌≤◌, true, List}
-use Rattle.std.proofs.Common.{[], ◌∷◌, ◌++◌, length, take, drop, arith, inl, append_assoc, length-append, Option, Some}
-use Rattle.std.proofs.Common.{None, IfSome, IfNone, Result, Err, IsErrOf, length-drop}
-use Rattle.std.specs.List.{concat}
-use Rattle.std.specs.Str.{IsUtf8}
-use Rattle.std.proofs.lemmas.List.{append-nil, nil_from_length, take-append-le, drop-append-le, take-append-drop}
-use Rattle.std.proofs.lemmas.List.{length-take-le}
+use Rattle.catserve.proofs.Common.{◌≡◌, ◌∙◌, refl, sym, ap, subst, ℕ, zero, suc, ◌+◌, ◌-◌, ◌<◌, ◌≤◌, true, List, []}
+use Rattle.catserve.proofs.Common.{◌∷◌, ◌++◌, length, take, drop, arith, inl, append_assoc, length-append, Option, Some}
+use Rattle.catserve.proofs.Common.{None, IfSome, IfNone, Result, Err, IsErrOf, length-drop, concat, IsUtf8, append-nil}
+use Rattle.catserve.proofs.Common.{nil_from_length, take-append-le, drop-append-le, take-append-drop, length-take-le}
+use Rattle.catserve.proofs.Common.{take-add, take-nil, concat-append, lines, Incoming, MayCome, EndsLine, EndsLines}
+use Rattle.catserve.proofs.Common.{consumes_none, consumes_both, rises_none, rises_both, most_script, ScriptKind}
+use Rattle.catserve.proofs.Common.{SessionFault, InputSeen, FailsToRead, HearingValue, CountsOn, HasTaken, HasGot}
+use Rattle.catserve.proofs.Common.{Stays, HearsNothing, HearsNoLine, FailsFor, EndsNext, HearsText, HearsUndecodable}
+use Rattle.catserve.proofs.Common.{most_lines}
 use Rattle.std.proofs.Math.Nat.{sub-zero}
-use Rattle.std.proofs.Math.Seq.{take-add, take-nil}
-use Rattle.std.proofs.lemmas.List.Folds.{concat-append}
-use Rattle.devices.specs.Lines.{lines}
-use Rattle.devices.specs.Incoming.{Incoming, MayCome, EndsLine, EndsLines}
 use Rattle.devices.specs.Arrivals.{AddsInput, AddsSome, Comes}
-use Rattle.devices.proofs.Arriving.{consumes_none, consumes_both, rises_none, rises_both}
 use Rattle.devices.specs.declared.incoming.LineInputFault.{LineInputFault}
 use Rattle.devices.specs.declared.incoming.LineInputFault.TheVariants as line_fault
-use Rattle.script_text.specs.Texts.{most_script}
-use Rattle.script_text.specs.declared.fault.ScriptKind.{ScriptKind}
 use Rattle.script_text.specs.declared.fault.ScriptKind.TheVariants as kind
-use Rattle.catserve.specs.declared.session_fault.SessionFault.{SessionFault}
-use Rattle.devices.specs.Devices.{InputSeen}
-use Rattle.catserve.specs.Run.{FailsToRead}
-use Rattle.catserve.specs.Hearing.{HearingValue, CountsOn, HasTaken, HasGot, Stays, HearsNothing, HearsNoLine, FailsFor}
-use Rattle.catserve.specs.Hearing.{EndsNext, HearsText, HearsUndecodable}
-use Rattle.catserve.specs.Session.{most_lines}
 
 -- ---- what was read
 
@@ -160,10 +149,9 @@ again_first b count text once twice = grind (arith, take-nil)
 
 -- the first lines of a text are the lines of what they are together
 pub lines_again : (count : ℕ) (text : List ℕ) → lines (concat (take count (lines text))) ≡ take count (lines text)
-lines_again zero text = refl
-lines_again (suc count) [] = refl
 lines_again (suc count) (b ∷ text) =
     again_first b count text (lines_again count text) (lines_again (suc count) text)
+lines_again _ _ = refl
 
 -- a line that ends goes on to end
 pub line_later : {i j : InputSeen} {x y : Incoming} {end : ℕ} → HasGot i j x y [] → EndsLine x 0 end → EndsLine y 0 end

@@ -1,21 +1,16 @@
 -- A text has one output.
-use Rattle.std.proofs.Common.{◌≡◌, ◌∙◌, refl, sym, ap, ℕ, zero, suc, ◌+◌, List, [], ◌∷◌, ◌++◌, length, Option}
-use Rattle.std.proofs.Common.{Some, None}
-use Rattle.std.specs.List.{AllZip, filter_map, flat_map}
+use Rattle.catserve.proofs.Common.{◌≡◌, ◌∙◌, refl, sym, ap, ℕ, zero, suc, ◌+◌, List, [], ◌∷◌, ◌++◌, length, Option}
+use Rattle.catserve.proofs.Common.{Some, None, AllZip, filter_map, flat_map, Entry, key_bytes, LoadValue, map_of}
+use Rattle.catserve.proofs.Common.{AskValue, Plain, Context, Number, ContextNumber, QueryValue, HasValue, IsAnswer}
+use Rattle.catserve.proofs.Common.{answering, QuestionValue, RoundValue, queries_for, script, answer_line, version_line}
+use Rattle.catserve.proofs.Common.{Accepted, Refused, RefusedMo, Unnamed, IsOutcome, outcome_line, accepted_load}
+use Rattle.catserve.proofs.Common.{Answers, AnswersInTurn, Plays, PlaysAll, HasOneOutput}
 use Rattle.po_header.specs.Rule.{Rule}
 use Rattle.po_header.proofs.RuleLemmas.{HasRule-one}
-use Rattle.catalogue.specs.Entry.{Entry, key_bytes}
 use Rattle.catalogue.specs.Map.{header_text, entry_at}
 use Rattle.catalogue.specs.Value.{IsFirstForm, IsCounted, HasRuleIn, text_by}
-use Rattle.live_set.specs.Loads.{LoadValue, map_of}
-use Rattle.live_set.specs.Asks.{AskValue, Plain, Context, Number, ContextNumber, QueryValue, HasValue, IsAnswer}
-use Rattle.live_set.specs.Asks.{answering}
 use Rattle.script_text.specs.ScriptLoads.{JobValue}
-use Rattle.script_text.specs.Script.{QuestionValue, RoundValue, queries_for, script}
-use Rattle.catserve.specs.Output.{answer_line, version_line}
-use Rattle.catserve.specs.Rounds.{Outcome, Accepted, Refused, RefusedMo, Unnamed, IsOutcome, outcome_line}
-use Rattle.catserve.specs.Rounds.{accepted_load, Answers, AnswersInTurn, Plays, PlaysAll}
-use Rattle.catserve.specs.Laws.{HasOneOutput}
+use Rattle.catserve.specs.Rounds.{Outcome}
 use Rattle.catserve.proofs.Sources.{brings_one, fault_one, no_fault}
 
 zip_one : {A B : Type 0} (R : A → B → Type 0) → ((x : A) (y z : B) → R x y → R x z → y ≡ z)

@@ -1,25 +1,20 @@
 -- A round, step by step.
-use Rattle.std.proofs.Common.{◌≡◌, ◌∙◌, refl, sym, ap, ℕ, ◌≤◌, List, [], ◌∷◌, ◌++◌, append_assoc, arith}
-use Rattle.std.proofs.Common.{length, length-append, None, Result, Ok, Err, IfOk, IfErr, OnErr}
-use Rattle.std.proofs.lemmas.List.{append-nil, flat_map_more}
+use Rattle.catserve.proofs.Common.{◌≡◌, ◌∙◌, refl, sym, ap, ℕ, ◌≤◌, List, [], ◌∷◌, ◌++◌, append_assoc, arith, length}
+use Rattle.catserve.proofs.Common.{length-append, None, Result, Ok, Err, IfOk, IfErr, OnErr, append-nil, flat_map_more}
+use Rattle.catserve.proofs.Common.{AllZip, filter_map, flat_map, LoadValue, joined, version_of, published, StoreValue}
+use Rattle.catserve.proofs.Common.{RoundValue, version_line, Accepted, Refused, RefusedMo, Unnamed, IsOutcome}
+use Rattle.catserve.proofs.Common.{outcome_line, accepted_load, job_source, AnswersInTurn, PlaysAll, LoadsOne, LoadsAll}
+use Rattle.catserve.proofs.Common.{PlaysOne, HasPlayed, IsLineOf, load_of, load_source}
 use Rattle.std.proofs.lemmas.List.Elements.{filter_map-append}
 use Rattle.std.proofs.lemmas.List.Sums.{sum_by-append}
 use Rattle.std.proofs.lemmas.Slice.Zip.{AllZip-long}
-use Rattle.std.specs.List.{AllZip, filter_map, flat_map}
-use Rattle.live_set.specs.Loads.{LoadValue}
-use Rattle.live_versions.specs.Batches.{joined, version_of, published}
-use Rattle.live_versions.specs.Store.{StoreValue}
 use Rattle.live_loads.specs.declared.fault.StoreFault.{StoreFault}
 use Rattle.live_loads.specs.declared.fault.StoreFault.TheVariants as fault
 use Rattle.desks.specs.Jobs as jobs
 use Rattle.desks.specs.declared.job.Accepted as job
 use Rattle.desks.specs.declared.job.Accepted.TheVariants as accepted
 use Rattle.script_text.specs.ScriptLoads.{JobValue}
-use Rattle.script_text.specs.Script.{RoundValue}
-use Rattle.catserve.specs.Output.{version_line}
-use Rattle.catserve.specs.Rounds.{Outcome, Accepted, Refused, RefusedMo, Unnamed, IsOutcome, outcome_line}
-use Rattle.catserve.specs.Rounds.{accepted_load, job_source, AnswersInTurn, PlaysAll}
-use Rattle.catserve.specs.Running.{LoadsOne, LoadsAll, PlaysOne, HasPlayed, IsLineOf, load_of, load_source}
+use Rattle.catserve.specs.Rounds.{Outcome}
 use Rattle.live_loads.proofs.Joining.{joined-published}
 use Rattle.catserve.proofs.Batching.{AllZip-snoc}
 

@@ -1,24 +1,12 @@
 -- The questions of a script, which are those of its rounds.
-use Rattle.std.proofs.Common.{◌≡◌, ◌∙◌, refl, sym, ap, ℕ, ◌+◌, ◌<◌, ◌≤◌, ◌⊎◌, inl, inr, Bool, true, false}
-use Rattle.std.proofs.Common.{List, [], ◌∷◌, ◌++◌}
-use Rattle.std.proofs.Common.{fold, length, arith, length-append, Option}
-use Rattle.std.proofs.lemmas.List.{append-nil}
+use Rattle.catserve.proofs.Common.{◌≡◌, ◌∙◌, refl, sym, ap, ℕ, ◌+◌, ◌<◌, ◌≤◌, ◌⊎◌, inl, inr, Bool, true, false, List}
+use Rattle.catserve.proofs.Common.{[], ◌∷◌, ◌++◌, fold, length, arith, length-append, Option, append-nil, false≢true}
+use Rattle.catserve.proofs.Common.{flat_map, list_any, listed, Command, Load, Ask, Go, QuestionValue, RoundValue}
+use Rattle.catserve.proofs.Common.{ScriptValue, rounds_of, IsScript, Gathered, all_rounds, gathered, nothing, so_far}
+use Rattle.catserve.proofs.Common.{rounds_are, Desk, OutputSeen, AreAsked, is_asked, question_count, CutsShort}
+use Rattle.catserve.proofs.Common.{EndsPlaying, kind_in_memory, FailsToAnswer, PlayerValue, ScriptKind}
 use Rattle.std.proofs.lemmas.Grind.{flat_map-append}
 use Rattle.std.proofs.lemmas.List.Sums.{fold-append, sum_by-append}
-use Rattle.std.proofs.lemmas.Bool.{false≢true}
-use Rattle.std.specs.List.{flat_map, list_any}
-use Rattle.script_text.specs.CommandValues.{listed}
-use Rattle.script_text.specs.Script.{Command, Load, Ask, Go, QuestionValue, RoundValue, ScriptValue, rounds_of}
-use Rattle.script_text.specs.Texts.{IsScript}
-use Rattle.script_text.specs.Gathering.{Gathered, all_rounds, gathered, nothing, so_far}
-use Rattle.script_text.proofs.Parsing.{rounds_are}
-use Rattle.desks.specs.declared.desk.Desk.{Desk}
-use Rattle.devices.specs.Devices.{OutputSeen}
-use Rattle.catserve.specs.Asking.{AreAsked, is_asked}
-use Rattle.catserve.specs.Run.{question_count}
-use Rattle.catserve.specs.Running.{CutsShort, EndsPlaying, kind_in_memory}
-use Rattle.catserve.specs.Talking.{FailsToAnswer, PlayerValue}
-use Rattle.script_text.specs.declared.fault.ScriptKind.{ScriptKind}
 use Rattle.script_text.specs.declared.fault.ScriptKind.TheVariants as kind
 
 -- how many questions are gathered
@@ -30,9 +18,8 @@ abbrev pub HasBegun : Gathered → Type 0
 HasBegun g = (g.begun ≡ true) ⊎ (length g.current.questions ≡ 0)
 
 begun_more : (g : Gathered) (command : Command) → HasBegun g → HasBegun (gathered g command)
-begun_more g (Load load) begun = inl refl
-begun_more g (Ask worker query) begun = inl refl
 begun_more g Go begun = inr refl
+begun_more g _ begun = inl refl
 
 begun_all : (commands : List Command) (g : Gathered) → HasBegun g → HasBegun (fold gathered g commands)
 begun_all [] g begun = begun

@@ -1,20 +1,9 @@
 -- A script that is played line by line.
-use Rattle.std.proofs.Common.{◌≡◌, ℕ, ◌+◌, ◌<◌, ◌≤◌, true, false, List, [], ◌∷◌, ◌++◌, fold, length, arith}
-use Rattle.std.proofs.Common.{Option, Some, None}
-use Rattle.std.specs.List.{flat_map}
-use Rattle.std.specs.Io.KnownBytes.{Appends}
-use Rattle.std.proofs.KnownBytes.{Appends-nil, Appends-trans}
-use Rattle.live_versions.specs.Store.{HasRoom}
-use Rattle.script_text.specs.CommandValues.{listed}
-use Rattle.script_text.specs.Script.{Command, Go}
-use Rattle.script_text.specs.Gathering.{Gathered, all_rounds, gathered, loads_so_far, nothing, so_far}
-use Rattle.script_text.proofs.Parsing.{few_more, rounds_are, so_far-snoc}
-use Rattle.devices.specs.Devices.{OutputSeen}
-use Rattle.devices.specs.Logs.{Log}
-use Rattle.catserve.specs.Rounds.{PlaysAll}
-use Rattle.catserve.specs.Running.{HasPlayedAll}
-use Rattle.catserve.specs.Talking.{AnswersRound, HasTalked, IsFresh, PlayerValue, Responds}
-use Rattle.catserve.specs.Timing.{RespondsInTime}
+use Rattle.catserve.proofs.Common.{◌≡◌, ℕ, ◌+◌, ◌<◌, ◌≤◌, true, false, List, [], ◌∷◌, ◌++◌, fold, length, arith, Option}
+use Rattle.catserve.proofs.Common.{Some, None, flat_map, Appends, Appends-nil, Appends-trans, HasRoom, listed, Command}
+use Rattle.catserve.proofs.Common.{Go, Gathered, all_rounds, gathered, loads_so_far, nothing, so_far, few_more}
+use Rattle.catserve.proofs.Common.{rounds_are, so_far-snoc, OutputSeen, Log, PlaysAll, HasPlayedAll, AnswersRound}
+use Rattle.catserve.proofs.Common.{HasTalked, IsFresh, PlayerValue, Responds, RespondsInTime}
 use Rattle.catserve.proofs.Playing.{plays_all}
 use Rattle.catserve.proofs.SessionTalk.{answers_one, room_left, talked_more, talked_none}
 use Rattle.catserve.proofs.SessionEnds.{nothing_open, one_open}

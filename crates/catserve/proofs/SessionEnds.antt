@@ -1,29 +1,16 @@
 -- How a session ends.
-use Rattle.std.proofs.Common.{◌≡◌, ◌∙◌, refl, sym, ap, subst, ℕ, ◌+◌, ◌<◌, ◌≤◌, ◌⊎◌, Bool, true, false, List, [], ◌∷◌}
-use Rattle.std.proofs.Common.{◌++◌, length, arith, inl, inr, append_assoc, length-append, Option, Some, None}
-use Rattle.std.specs.List.{concat}
-use Rattle.std.specs.Io.KnownBytes.{Appends, Consumes}
-use Rattle.std.proofs.KnownBytes.{Appends-nil, Appends-trans}
-use Rattle.std.proofs.lemmas.List.{append-nil}
-use Rattle.std.proofs.lemmas.List.Folds.{concat-append}
-use Rattle.std.proofs.lemmas.Str.{IsUtf8-append, IsUtf8-nil}
-use Rattle.devices.specs.Devices.{InputSeen, OutputSeen}
-use Rattle.devices.specs.Lines.{lines}
-use Rattle.devices.specs.Incoming.{MayCome}
-use Rattle.devices.proofs.Arriving.{both, consumes_both}
-use Rattle.script_text.specs.Script.{RoundValue, commands_from, script_of}
-use Rattle.script_text.specs.Texts.{most_script}
-use Rattle.script_text.specs.Gathering.{Gathered, empty_round, going_on, onto_open}
-use Rattle.script_text.proofs.Parsing.{both_empty}
-use Rattle.script_text.specs.declared.fault.ScriptKind.{ScriptKind}
+use Rattle.catserve.proofs.Common.{◌≡◌, ◌∙◌, refl, sym, ap, subst, ℕ, ◌+◌, ◌<◌, ◌≤◌, ◌⊎◌, Bool, true, false, List, []}
+use Rattle.catserve.proofs.Common.{◌∷◌, ◌++◌, length, arith, inl, inr, append_assoc, length-append, Option, Some, None}
+use Rattle.catserve.proofs.Common.{concat, Appends, Consumes, Appends-nil, Appends-trans, append-nil, concat-append}
+use Rattle.catserve.proofs.Common.{IsUtf8-append, IsUtf8-nil, InputSeen, OutputSeen, lines, MayCome, consumes_both}
+use Rattle.catserve.proofs.Common.{RoundValue, commands_from, script_of, most_script, Gathered, empty_round, going_on}
+use Rattle.catserve.proofs.Common.{onto_open, both_empty, ScriptKind, PlaysAll, IsOpenKind, said, round_end, HaveEnded}
+use Rattle.catserve.proofs.Common.{Stops, AnswersAll, StopsEarly, EndsFor, most_lines, BreaksOff, HearingValue}
+use Rattle.catserve.proofs.Common.{HasTaken, Stays, HearsBad, HearsEnd, HearsNone, HearsNoLine, Begins, silence}
+use Rattle.catserve.proofs.Common.{unheard, HasPassed, FailsInPreamble, HearsTooMuch, HearsUndecodable, PlayerValue}
+use Rattle.catserve.proofs.Common.{AnswersRound, BreaksRound, FailsToAnswer, IsFresh, Conversing}
+use Rattle.devices.proofs.Arriving.{both}
 use Rattle.script_text.specs.declared.fault.ScriptKind.TheVariants as kind
-use Rattle.catserve.specs.Rounds.{PlaysAll}
-use Rattle.catserve.specs.Running.{IsOpenKind}
-use Rattle.catserve.specs.Session.{said, round_end, HaveEnded, StopsBehind, AnswersAll, StopsEarly, EndsFor}
-use Rattle.catserve.specs.Session.{most_lines, BreaksOff}
-use Rattle.catserve.specs.Hearing.{HearingValue, HasTaken, Stays, HearsBad, HearsEnd, HearsNone, HearsNoLine, Begins}
-use Rattle.catserve.specs.Hearing.{silence, unheard, HasPassed, FailsInPreamble, HearsTooMuch, HearsUndecodable}
-use Rattle.catserve.specs.Talking.{PlayerValue, AnswersRound, BreaksRound, FailsToAnswer, IsFresh, Conversing}
 use Rattle.catserve.proofs.Playing.{plays_all}
 use Rattle.catserve.proofs.Questions.{asked_some}
 use Rattle.catserve.proofs.LinesTaken.{stays_put, taken_none, taken_then}
@@ -52,11 +39,15 @@ pub record Answered (given : Option ℕ) (i j : InputSeen) (o o' : OutputSeen) (
   pub ended_before : HaveEnded given before first rounds
 
 abbrev pub stops_so : {given : Option ℕ} {i j k : InputSeen} {o o' : OutputSeen} {y z : HearingValue}
-    {front : List (List ℕ)} {lost : List ℕ} (a : Answered given i j o o' y front) (s : Stays j k y z lost)
-    → StopsBehind given i k o o' front (a.taken.more ++ s.got.more) z.input.left lost z.input.ended
-stops_so {i} {j} {k} {y} {front} {lost} a s =
+    {front : List (List ℕ)} {lost : List ℕ} → Answered given i j o o' y front → Stays j k y z lost
+    → Stops given i k o o' lost
+stops_so {i} {j} {k} {y} {z} {front} {lost} a s =
     let t = a.taken in
     record {
+      front = front;
+      text = t.more ++ s.got.more;
+      rest = z.input.left;
+      ended = z.input.ended;
       read = rw (append_assoc t.more s.got.more lost)
           (consumes_both i.left j.left k.left t.more (s.got.more ++ lost) t.read s.got.read);
       at_end = s.got.at_end (t.at_end (λ ended. both false ended refl));
@@ -74,23 +65,12 @@ stops_so {i} {j} {k} {y} {front} {lost} a s =
 abbrev stops_early : {given : Option ℕ} {i j k : InputSeen} {o o' : OutputSeen} {y z : HearingValue}
     {front : List (List ℕ)} {lost : List ℕ} → Answered given i j o o' y front → Stays j k y z lost
     → StopsEarly given i k o o'
-stops_early {z} {front} {lost} a s = record {
-  front = front;
-  text = a.taken.more ++ s.got.more;
-  rest = z.input.left;
-  lost = lost;
-  ended = z.input.ended;
-  stops = stops_so a s;
-}
+stops_early {lost} a s = record { lost = lost; stop = stops_so a s }
 
 too_much : {given : Option ℕ} {i j k : InputSeen} {o o' : OutputSeen} {y z : HearingValue} {front : List (List ℕ)}
     {line : ℕ} → Answered given i j o o' y front → HearsTooMuch j k y z line → EndsFor given i k o o' kind.TooLarge line
-too_much {y} {z} {front} {line} a h = record {
-  front = front;
-  text = a.taken.more ++ h.stays.got.more;
-  rest = z.input.left;
-  ended = z.input.ended;
-  stops = stops_so a h.stays;
+too_much {y} {z} {line} a h = record {
+  stop = stops_so a h.stays;
   line_is = h.line_is ∙ a.number;
   round = a.round;
   is_open = record {
@@ -112,14 +92,10 @@ too_much {y} {z} {front} {line} a h = record {
 undecodable : {given : Option ℕ} {i j k : InputSeen} {o o' : OutputSeen} {y z : HearingValue}
     {front : List (List ℕ)} {line : ℕ} → Answered given i j o o' y front → HearsUndecodable j k y z line
     → EndsFor given i k o o' kind.NotUtf8 line
-undecodable {z} {front} a h =
+undecodable a h =
     let stops = stops_so a h.stays in
     record {
-      front = front;
-      text = a.taken.more ++ h.stays.got.more;
-      rest = z.input.left;
-      ended = z.input.ended;
-      stops = stops;
+      stop = stops;
       line_is = h.line_is ∙ a.number;
       raw = h.raw;
       behind = h.behind;
@@ -228,11 +204,7 @@ pub none_ends : {given : Option ℕ} {first i j : InputSeen} (k : InputSeen) {o 
 none_ends {given} {j} k {y} z {workers} kind line fresh c h b =
     let a = answered b c fresh in
     for_no_line (HearsBad j k workers y z) k z kind line a (λ h. record {
-      front = b.front ++ c.lines;
-      text = a.taken.more ++ h.stays.got.more;
-      rest = z.input.left;
-      ended = z.input.ended;
-      stops = stops_so a h.stays;
+      stop = stops_so a h.stays;
       line_is = h.line_is ∙ a.number;
       bad = λ more may. let got = h.stays.got in
           rw (append_assoc a.taken.more, said_all b c (got.more ++ more) (got.may more may), h.line_is)
@@ -263,16 +235,12 @@ taken_stays z t = record {
 breaks_off : {given : Option ℕ} {first i j k : InputSeen} {o o' o'' : OutputSeen} {x y z : HearingValue} {workers : ℕ}
     {start talk : PlayerValue} → IsFresh workers start → (c : Conversing workers i j o o' x y start talk)
     → Stays j k y z [] → BreaksRound talk o' o'' → Begins given first i x workers → BreaksOff given first k o o''
-breaks_off {o'} {z} fresh c s h b =
+breaks_off {o'} fresh c s h b =
     let a = answered b c fresh in
     let played = plays_open h.lines c.talked h.finishes in
     record {
-      front = b.front ++ c.lines;
-      text = a.taken.more ++ s.got.more;
-      rest = z.input.left;
-      ended = z.input.ended;
       mid = o';
-      stops = stops_so a s;
+      stop = stops_so a s;
       lines = h.lines;
       plays = rw (both_empty c.g.current) (rw fresh.none_published at (plays_all played));
       written = h.front;
@@ -306,8 +274,8 @@ all_said : {given : Option ℕ} {first i j k : InputSeen} {o o' o'' : OutputSeen
     → AnswersAll given first k o o''
 all_said {first} {k} {y} {z} {workers} written fresh c h b plays appended =
     let a = answered b c fresh in
-    let got = h.got in
-    let stops = stops_so a (record { got = got; number = h.number; size = h.size }) in
+    let got = h.stays.got in
+    let stops = stops_so a h.stays in
     let text : List ℕ = a.taken.more ++ got.more in
     let none : MayCome z.input [] = λ ended. refl in
     let may : MayCome y.input got.more = subst (MayCome y.input) (append-nil got.more) (got.may [] none) in

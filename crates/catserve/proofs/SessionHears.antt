@@ -1,23 +1,13 @@
 -- What was heard of a session's input.
-use Rattle.std.proofs.Common.{◌≡◌, ◌∙◌, refl, sym, ap, subst, ℕ, ◌+◌, ◌<◌, List, [], ◌∷◌, ◌++◌, length, take, drop}
-use Rattle.std.proofs.Common.{arith, inl, inr, append_assoc, Option, Some, None, Result, Ok, Err}
-use Rattle.std.specs.List.{concat}
-use Rattle.std.proofs.lemmas.List.{append-nil}
-use Rattle.devices.specs.Devices.{InputSeen, most_reads}
-use Rattle.devices.specs.Lines.{lines, without_end}
-use Rattle.devices.specs.Incoming.{MayCome, EndsLine}
-use Rattle.devices.proofs.Arriving.{consumes_both, rises_both, rises_later}
-use Rattle.script_text.specs.Commands.{Line, line_of}
-use Rattle.script_text.specs.CommandValues.{command_with, listed, text_lines}
-use Rattle.script_text.specs.Script.{commands_from}
-use Rattle.script_text.specs.declared.fault.ScriptKind.{ScriptKind}
+use Rattle.catserve.proofs.Common.{◌≡◌, ◌∙◌, refl, sym, ap, subst, ℕ, ◌+◌, ◌<◌, List, [], ◌∷◌, ◌++◌, length, take, drop}
+use Rattle.catserve.proofs.Common.{arith, inl, inr, append_assoc, Option, Some, None, Result, Ok, Err, concat}
+use Rattle.catserve.proofs.Common.{append-nil, InputSeen, most_reads, lines, without_end, MayCome, EndsLine}
+use Rattle.catserve.proofs.Common.{consumes_both, rises_both, rises_later, Line, line_of, command_with, listed}
+use Rattle.catserve.proofs.Common.{text_lines, commands_from, ScriptKind, SessionFault, FailsToRead, most_lines}
+use Rattle.catserve.proofs.Common.{HearingValue, CountsOn, HasTaken, Hears, Stays, HearsNone, HearsNoText, HearsText}
+use Rattle.catserve.proofs.Common.{HearsOne, IsUnsaid, line_of_kind, size_behind, commands_of}
 use Rattle.script_text.specs.declared.fault.ScriptKind.TheVariants as kind
 use Rattle.catserve.specs.declared.hearing.Heard.{Heard}
-use Rattle.catserve.specs.declared.session_fault.SessionFault.{SessionFault}
-use Rattle.catserve.specs.Run.{FailsToRead}
-use Rattle.catserve.specs.Session.{most_lines}
-use Rattle.catserve.specs.Hearing.{HearingValue, CountsOn, HasTaken, Hears, Stays, HearsNone, HearsNoText, HearsText}
-use Rattle.catserve.specs.Hearing.{HearsOne, IsUnsaid, line_of_kind, size_behind, commands_of}
 use Rattle.catserve.proofs.LinesTaken.{counts_both, taken_then, got_taken, first_same, line_cut, line_later, line_whole}
 use Rattle.catserve.proofs.LinesTaken.{stays_put}
 use Rattle.catserve.proofs.SessionLines.{says_text, bad_line, bad_text}
@@ -82,9 +72,7 @@ hears_then k workers z (Ok (Some thing)) a h = record {
   number = h.number ∙ ap (λ n. n + length h.raw) a.number;
   size = h.size ∙ ap (λ n. size_behind (commands_of thing) (n + length (concat h.raw))) a.size;
 }
-hears_then k workers z (Ok None) a h =
-    let both = stays_then a (record { got = h.got; number = h.number; size = h.size }) in
-    record { got = both.got; left = h.left; ended = h.ended; number = both.number; size = both.size }
+hears_then k workers z (Ok None) a h = record { stays = stays_then a h.stays; left = h.left; ended = h.ended }
 hears_then k workers z (Err fault) a h = none_then k workers z fault.kind fault.line a h
 
 -- ---- a line

@@ -1,28 +1,20 @@
 -- What a session has answered when it waits.
-use Rattle.std.proofs.Common.{◌≡◌, ◌∙◌, refl, sym, ap, ℕ, ◌-◌, ◌<◌, true, List, [], ◌∷◌, ◌++◌, length, take}
-use Rattle.std.proofs.Common.{drop, arith, inl, inr, append_assoc, Option, Some, None, Result, Ok}
-use Rattle.std.specs.List.{concat}
-use Rattle.std.proofs.Math.Seq.{take-add}
-use Rattle.std.proofs.lemmas.List.{append_cancel_left, append-nil, nil_from_length, take-append-drop, take-append-le}
-use Rattle.devices.specs.Logs.{AnswersFirst, Event, Gave, Grows, Log, came, given as gave}
+use Rattle.catserve.proofs.Common.{◌≡◌, ◌∙◌, refl, sym, ap, ℕ, ◌-◌, ◌<◌, true, List, [], ◌∷◌, ◌++◌, length, take, drop}
+use Rattle.catserve.proofs.Common.{arith, inl, inr, append_assoc, Option, Some, None, Result, Ok, concat, take-add}
+use Rattle.catserve.proofs.Common.{append_cancel_left, append-nil, nil_from_length, take-append-drop, take-append-le}
+use Rattle.catserve.proofs.Common.{AnswersFirst, Event, Gave, Grows, Log, came, EndsLine, EndsLines, Incoming, lines}
+use Rattle.catserve.proofs.Common.{without_end, ReadsWhile, StillCounts, StillWaits, Waits, Line, line_of, command_with}
+use Rattle.catserve.proofs.Common.{listed, text_lines, Command, Go, SessionFault, InputSeen, OutputSeen, AnswersInTime}
+use Rattle.catserve.proofs.Common.{IsAnswered, most_lines, Begins, HasGot, HasPassed, Hears, HearsEnd, HearingValue}
+use Rattle.catserve.proofs.Common.{HearsText, Stays, size_behind, unheard, Conversing, IsFresh, PlayerValue}
+use Rattle.catserve.proofs.Common.{ContinuesInTime, GivesSome, HearsInTime, InTime, ReadsOpen, RespondsInTime}
+use Rattle.catserve.proofs.Common.{StillOpen, TalksInTime}
+use Rattle.devices.specs.Logs.{given as gave}
 use Rattle.devices.proofs.Logging.{answers_none, answers_so, answers_then, answers_write, came_then, given_then}
 use Rattle.devices.proofs.Logging.{grows_none, grows_then}
-use Rattle.devices.specs.Incoming.{EndsLine, EndsLines, Incoming}
-use Rattle.devices.specs.Lines.{lines, without_end}
-use Rattle.devices.specs.Waiting.{ReadsWhile, StillCounts, StillWaits, Waits}
 use Rattle.devices.proofs.Arriving.{both}
-use Rattle.script_text.specs.Commands.{Line, line_of}
-use Rattle.script_text.specs.CommandValues.{command_with, listed, text_lines}
-use Rattle.script_text.specs.Script.{Command, Go}
 use Rattle.catserve.specs.declared.hearing.Heard.{Heard}
-use Rattle.catserve.specs.declared.session_fault.SessionFault.{SessionFault}
-use Rattle.devices.specs.Devices.{InputSeen, OutputSeen}
-use Rattle.catserve.specs.Session.{AnswersInTime, IsAnswered, most_lines}
-use Rattle.catserve.specs.Hearing.{Begins, HasGot, HasPassed, Hears, HearsEnd, HearingValue, HearsText, Stays}
-use Rattle.catserve.specs.Hearing.{size_behind, unheard}
-use Rattle.catserve.specs.Talking.{Conversing, IsFresh, PlayerValue}
-use Rattle.catserve.specs.Timing.{ContinuesInTime, GivesSome, HearsInTime, InTime, ReadsOpen, ReadsText, RespondsInTime}
-use Rattle.catserve.specs.Timing.{StillOpen, TalksInTime}
+use Rattle.catserve.specs.Timing.{ReadsText}
 use Rattle.catserve.proofs.SessionEnds.{Answered, answered, front_answered}
 use Rattle.catserve.proofs.SessionPreamble.{passed_none}
 use Rattle.catserve.proofs.SessionHears.{hears_said, hears_then}
@@ -76,16 +68,8 @@ in_time_then k c workers z r stays waits (h, reads) = (
 pub end_heard : {i j : InputSeen} {a b : Log} {workers : ℕ} {x y : HearingValue} → Stays i j x y []
     → (y.input.ended ≡ true) × (length y.input.left ≡ 0) → Waits a b x.input y.input [] (StillWaits x.input 0)
     → HearsEnd i j x y × ReadsWhile a b (StillOpen workers x.input)
-end_heard {y} stays (ended, none) waits = (
-  record {
-    got = stays.got;
-    left = nil_from_length y.input.left none;
-    ended = ended;
-    number = stays.number;
-    size = stays.size;
-  },
-  open_line waits,
-)
+end_heard {y} stays (ended, none) waits =
+    (record { stays = stays; left = nil_from_length y.input.left none; ended = ended }, open_line waits)
 
 -- ---- a load's text
 
@@ -166,10 +150,15 @@ begins_timely {given} {log} = record {
   first = answers_none (IsAnswered given);
 }
 
+-- all that has ended in this text is answered, as long as no further round ends
+abbrev pub AnswersHere : Option ℕ → ℕ → Incoming → List ℕ → List ℕ → Type 0
+AnswersHere given workers y text output = (t g : List ℕ) → StillOpen workers y t g
+    → IsAnswered given (text ++ t) (output ++ g)
+
 -- only reads, and all was answered before each of them
 reads_first : {given : Option ℕ} {a b c : Log} {text output : List ℕ} {workers : ℕ} {y : Incoming}
     (had : InTime given a b text output)
-    → ((t g : List ℕ) → StillOpen workers y t g → IsAnswered given (text ++ t) (output ++ g))
+    → AnswersHere given workers y text output
     → (reads : ReadsWhile b c (StillOpen workers y)) → AnswersFirst (IsAnswered given) (had.events ++ reads.events)
 reads_first {given} {workers} {y} had here reads =
     answers_then (IsAnswered given) had.events reads.events had.first (answers_so (StillOpen workers y)
@@ -178,7 +167,7 @@ reads_first {given} {workers} {y} had here reads =
 
 pub reads_timely : {given : Option ℕ} {a b c : Log} {text output more : List ℕ} {workers : ℕ} {y : Incoming}
     → InTime given a b text output
-    → ((t g : List ℕ) → StillOpen workers y t g → IsAnswered given (text ++ t) (output ++ g))
+    → AnswersHere given workers y text output
     → ReadsOpen b c workers y more → InTime given a c (text ++ more) output
 reads_timely {a} {b} {c} had here reads = record {
   events = had.events ++ reads.events;
@@ -225,7 +214,7 @@ ends_at had = record { events = had.events; logged = had.logged; first = had.fir
 -- more is read, and then some bytes may be given
 pub ends_timely : {given : Option ℕ} {a b c d : Log} {text output : List ℕ} {workers : ℕ} {y : Incoming}
     → InTime given a b text output
-    → ((t g : List ℕ) → StillOpen workers y t g → IsAnswered given (text ++ t) (output ++ g))
+    → AnswersHere given workers y text output
     → ReadsWhile b c (StillOpen workers y) → GivesSome c d → AnswersInTime given a d
 ends_timely {a} {b} {c} had here reads gives =
     gives_last c (had.events ++ reads.events) (grows_then a b c had.events reads.events had.logged

@@ -1,22 +1,13 @@
 -- What the lines of a session say, one after another.
-use Rattle.std.proofs.Common.{◌≡◌, ◌∙◌, refl, sym, ap, ℕ, ◌+◌, ◌<◌, ◌≤◌, fold, List, [], ◌∷◌, ◌++◌, length, take, drop}
-use Rattle.std.proofs.Common.{arith, inl, inr, append_assoc, length-append, Option, Some, None, Err}
-use Rattle.std.specs.List.{concat}
-use Rattle.std.specs.Str.{IsUtf8}
-use Rattle.std.proofs.lemmas.List.Folds.{concat-append}
-use Rattle.std.proofs.lemmas.Str.{IsUtf8-append}
-use Rattle.std.proofs.Math.Seq.{take-append_seam, drop-append_seam}
-use Rattle.devices.specs.Lines.{lines, without_end}
-use Rattle.devices.specs.Incoming.{Incoming, MayCome}
-use Rattle.script_text.specs.Commands.{Line, line_of}
-use Rattle.script_text.specs.CommandValues.{command_with, listed, text_lines}
-use Rattle.script_text.specs.Script.{Command, Says, and_then, commands_from, script_of}
-use Rattle.script_text.specs.Gathering.{Gathered, empty_round, nothing, both, gathered, going_on, loads_so_far}
-use Rattle.script_text.proofs.Parsing.{skips, says_with, too_long, gathers, begins_with}
-use Rattle.devices.specs.Devices.{InputSeen}
-use Rattle.catserve.specs.Session.{round_end, said, HaveEnded}
-use Rattle.catserve.specs.Hearing.{HearingValue, HasTaken, HasSaid, BeginAlike, Follows, Begins}
-use Rattle.catserve.specs.Talking.{HasHeard}
+use Rattle.catserve.proofs.Common.{◌≡◌, ◌∙◌, refl, sym, ap, ℕ, ◌+◌, ◌<◌, ◌≤◌, fold, List, [], ◌∷◌, ◌++◌, length, take}
+use Rattle.catserve.proofs.Common.{drop, arith, inl, inr, append_assoc, length-append, Option, Some, None, Err, concat}
+use Rattle.catserve.proofs.Common.{IsUtf8, concat-append, IsUtf8-append, take-append_seam, drop-append_seam, lines}
+use Rattle.catserve.proofs.Common.{without_end, Incoming, MayCome, Line, line_of, command_with, listed, text_lines}
+use Rattle.catserve.proofs.Common.{Command, Says, and_then, commands_from, script_of, Gathered, empty_round, nothing}
+use Rattle.catserve.proofs.Common.{gathered, going_on, loads_so_far, skips, says_with, too_long, gathers, begins_with}
+use Rattle.catserve.proofs.Common.{InputSeen, round_end, said, HaveEnded, HearingValue, HasTaken, HasSaid, BeginAlike}
+use Rattle.catserve.proofs.Common.{Follows, Begins, HasHeard}
+use Rattle.script_text.specs.Gathering.{both}
 
 -- ---- one line
 

@@ -1,21 +1,12 @@
 -- The preamble of a session.
-use Rattle.std.proofs.Common.{◌≡◌, ◌∙◌, refl, sym, ap, subst, ℕ, ◌+◌, true, false, List, [], ◌∷◌, ◌++◌, length, take}
-use Rattle.std.proofs.Common.{drop, arith, inl, inr, append_assoc, length-append, Some, None}
-use Rattle.std.specs.List.{concat}
-use Rattle.std.specs.Str.{IsUtf8}
-use Rattle.std.proofs.lemmas.List.{append-nil, length-take-le}
-use Rattle.std.proofs.lemmas.List.Folds.{concat-append}
-use Rattle.std.proofs.lemmas.Str.{IsUtf8-append, IsUtf8-nil}
-use Rattle.devices.specs.Lines.{lines, without_end}
-use Rattle.devices.specs.Incoming.{Incoming, EndsLine}
-use Rattle.script_text.specs.Commands.{is_blank, workers_line}
+use Rattle.catserve.proofs.Common.{◌≡◌, ◌∙◌, refl, sym, ap, subst, ℕ, ◌+◌, true, false, List, [], ◌∷◌, ◌++◌, length}
+use Rattle.catserve.proofs.Common.{take, drop, arith, inl, inr, append_assoc, length-append, Some, None, concat, IsUtf8}
+use Rattle.catserve.proofs.Common.{append-nil, length-take-le, concat-append, IsUtf8-append, IsUtf8-nil, lines}
+use Rattle.catserve.proofs.Common.{without_end, Incoming, EndsLine, is_blank, workers_line, commands_from, script_from}
+use Rattle.catserve.proofs.Common.{script_of, ScriptKind, InputSeen, HearingValue, HasTaken, Stays, HasPassed, Begins}
+use Rattle.catserve.proofs.Common.{Follows, BeginAlike, unheard, HearsNothing, FailsInPreamble}
 use Rattle.script_text.specs.LineFields.{fields}
-use Rattle.script_text.specs.Script.{commands_from, script_from, script_of}
-use Rattle.script_text.specs.declared.fault.ScriptKind.{ScriptKind}
 use Rattle.script_text.specs.declared.fault.ScriptKind.TheVariants as kind
-use Rattle.devices.specs.Devices.{InputSeen}
-use Rattle.catserve.specs.Hearing.{HearingValue, HasTaken, Stays, HasPassed, Begins, Follows, BeginAlike}
-use Rattle.catserve.specs.Hearing.{unheard, HearsNothing, FailsInPreamble}
 use Rattle.catserve.proofs.LinesTaken.{no_line, taken_none, taken_then, got_taken, line_cut, line_whole}
 use Rattle.catserve.proofs.SessionHears.{stays_taken}
 

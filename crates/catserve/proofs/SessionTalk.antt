@@ -1,28 +1,13 @@
 -- How a session goes on, thing by thing.
-use Rattle.std.proofs.Common.{◌≡◌, ◌∙◌, refl, sym, ap, ℕ, ◌+◌, ◌<◌, ◌≤◌, fold, List, [], ◌∷◌, ◌++◌, length, arith}
-use Rattle.std.proofs.Common.{append_assoc, length-append, Option, Some, None}
-use Rattle.std.specs.List.{concat, filter_map}
-use Rattle.std.specs.Io.KnownBytes.{Appends}
-use Rattle.std.proofs.KnownBytes.{Appends-nil, Appends-trans}
-use Rattle.std.proofs.lemmas.List.{append-nil}
-use Rattle.std.proofs.lemmas.List.Folds.{concat-append}
-use Rattle.live_set.specs.Asks.{QueryValue}
-use Rattle.live_versions.specs.Seen.{SeenValue}
-use Rattle.live_versions.specs.Batches.{version_of}
-use Rattle.live_versions.specs.Store.{StoreValue, HasRoom}
+use Rattle.catserve.proofs.Common.{◌≡◌, ◌∙◌, refl, sym, ap, ℕ, ◌+◌, ◌<◌, ◌≤◌, fold, List, [], ◌∷◌, ◌++◌, length, arith}
+use Rattle.catserve.proofs.Common.{append_assoc, length-append, Option, Some, None, concat, filter_map, Appends}
+use Rattle.catserve.proofs.Common.{Appends-nil, Appends-trans, append-nil, concat-append, QueryValue, SeenValue}
+use Rattle.catserve.proofs.Common.{version_of, StoreValue, HasRoom, listed, Command, Load, Ask, Go, RoundValue}
+use Rattle.catserve.proofs.Common.{Gathered, empty_round, nothing, gathered, loads_so_far, few_more, readers_of}
+use Rattle.catserve.proofs.Common.{accepted_load, Finishes, HasLoaded, HasPlayed, PlaysOne, InputSeen, OutputSeen}
+use Rattle.catserve.proofs.Common.{HaveEnded, HearingValue, Hears, size_behind, PlayerValue, AnswersRound, MakesLoad}
+use Rattle.catserve.proofs.Common.{GivesQuestion, Responds, IsFresh, HasTalked, HasOpen, Conversing}
 use Rattle.script_text.specs.ScriptLoads.{JobValue}
-use Rattle.script_text.specs.CommandValues.{listed}
-use Rattle.script_text.specs.Script.{Command, Load, Ask, Go, RoundValue}
-use Rattle.script_text.specs.Gathering.{Gathered, empty_round, nothing, gathered, loads_so_far}
-use Rattle.script_text.proofs.Parsing.{few_more}
-use Rattle.catserve.specs.Asking.{readers_of}
-use Rattle.catserve.specs.Rounds.{accepted_load}
-use Rattle.catserve.specs.Running.{Finishes, HasLoaded, HasPlayed, PlaysOne}
-use Rattle.devices.specs.Devices.{InputSeen, OutputSeen}
-use Rattle.catserve.specs.Session.{HaveEnded}
-use Rattle.catserve.specs.Hearing.{HearingValue, Hears, size_behind}
-use Rattle.catserve.specs.Talking.{PlayerValue, AnswersRound, MakesLoad, GivesQuestion, Responds, IsFresh, HasTalked}
-use Rattle.catserve.specs.Talking.{HasOpen, Conversing}
 use Rattle.catserve.proofs.Asked.{asked_more, count_of, readers-given}
 use Rattle.catserve.proofs.Playing.{loads_more, plays_more, plays_none, few_outcomes}
 use Rattle.catserve.proofs.LinesTaken.{taken_none, taken_then}

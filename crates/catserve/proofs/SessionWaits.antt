@@ -1,19 +1,11 @@
 -- When a session waits.
-use Rattle.std.proofs.Common.{◌≡◌, ◌∙◌, refl, ap, ℕ, false, List, [], ◌∷◌, ◌++◌, length, arith, take, inl}
-use Rattle.std.proofs.Common.{inr, append_assoc, length-append, Some}
-use Rattle.std.proofs.lemmas.Bool.{cases_Bool}
-use Rattle.std.proofs.lemmas.List.{append-nil, take-append-le}
-use Rattle.devices.specs.Logs.{AnswersFirst, Log, came, given}
+use Rattle.catserve.proofs.Common.{◌≡◌, ◌∙◌, refl, ap, ℕ, false, List, [], ◌∷◌, ◌++◌, length, arith, take, inl, inr}
+use Rattle.catserve.proofs.Common.{append_assoc, length-append, Some, cases_Bool, append-nil, take-append-le}
+use Rattle.catserve.proofs.Common.{AnswersFirst, Log, came, given, without_end, EndsLine, Incoming, MayCome, ReadsWhile}
+use Rattle.catserve.proofs.Common.{StillCounts, StillWaits, Waits, Line, Loads, line_of, text_lines, coming, StillOpen}
 use Rattle.devices.proofs.Logging.{answers_none, answers_so, answers_then, given_then, grows_none, grows_then}
-use Rattle.devices.specs.Lines.{without_end}
-use Rattle.devices.specs.Incoming.{EndsLine, Incoming, MayCome}
-use Rattle.devices.specs.Waiting.{ReadsWhile, StillCounts, StillWaits, Waits}
 use Rattle.devices.proofs.Arriving.{both}
 use Rattle.devices.proofs.LineCounting.{ends_grown, ends_more, ends_none}
-use Rattle.script_text.specs.Commands.{Line, Loads, line_of}
-use Rattle.script_text.specs.CommandValues.{text_lines}
-use Rattle.catserve.specs.Session.{coming}
-use Rattle.catserve.specs.Timing.{StillOpen}
 
 pub reads_none : {log : Log} {Still : List ℕ → List ℕ → Type 0} → ReadsWhile log log Still
 reads_none {log} {Still} = record { events = []; logged = grows_none log; silent = refl; each = answers_none Still }

@@ -1,28 +1,23 @@
 -- A text has an output or a fault: it leads to ⊥ that it has neither.
-use Rattle.std.proofs.Common.{◌≡◌, ℕ, zero, suc, ◌+◌, ◌<◌, Bool, List, [], ◌∷◌, ◌++◌, length, Option}
-use Rattle.std.proofs.Common.{Some, map, None, Result, Ok, Err, refl, arith, inl, inr}
-use Rattle.std.specs.Prelude.{nat_lt}
-use Rattle.std.specs.List.{AllByRecursion, AllZip, filter, filter_map, flat_map, last_or}
-use Rattle.std.proofs.lemmas.Bool.{cases_Bool, cases_lt, ltb-true}
+use Rattle.catserve.proofs.Common.{◌≡◌, ℕ, zero, suc, ◌+◌, ◌<◌, Bool, List, [], ◌∷◌, ◌++◌, length, Option, Some, map}
+use Rattle.catserve.proofs.Common.{None, Result, Ok, Err, refl, arith, inl, inr, nat_lt, AllByRecursion, AllZip, filter}
+use Rattle.catserve.proofs.Common.{filter_map, flat_map, last_or, cases_Bool, cases_lt, ltb-true, Entry, key_bytes}
+use Rattle.catserve.proofs.Common.{LoadValue, map_of, map_or_empty, is_for, AskValue, Plain, Context, Number}
+use Rattle.catserve.proofs.Common.{ContextNumber, QueryValue, HasValue, IsAnswer, answering, first_with, has_key}
+use Rattle.catserve.proofs.Common.{key_of, QuestionValue, RoundValue, ScriptValue, queries_for, script, answer_line}
+use Rattle.catserve.proofs.Common.{version_line, IsReadable, most_script, Accepted, Refused, RefusedMo, Unnamed}
+use Rattle.catserve.proofs.Common.{IsOutcome, outcome_line, accepted_load, Answers, AnswersInTurn, Plays, PlaysAll}
+use Rattle.catserve.proofs.Common.{HasSomeOutput}
 use Rattle.po_header.specs.Rule.{Rule, Absent, form_index}
 use Rattle.po_header.proofs.RuleLemmas.{HasRule-some}
-use Rattle.catalogue.specs.Entry.{Entry, key_bytes}
 use Rattle.catalogue.specs.Map.{header_text, entry_at}
 use Rattle.catalogue.specs.Value.{IsFirstForm, IsCounted, HasRuleIn, form_or_first, text_by}
 use Rattle.catalogue.proofs.Members.{from_find}
 use Rattle.entry_search.proofs.Searching.{some_at}
 use Rattle.catalogue.proofs.SomeMeaning.{IsFormed}
-use Rattle.live_set.specs.Loads.{LoadValue, map_of, map_or_empty, is_for}
-use Rattle.live_set.specs.Asks.{AskValue, Plain, Context, Number, ContextNumber, QueryValue, HasValue, IsAnswer}
-use Rattle.live_set.specs.Asks.{answering, first_with, has_key, key_of}
 use Rattle.live_set.specs.LanguageList.{named}
 use Rattle.script_text.specs.ScriptLoads.{JobValue}
-use Rattle.script_text.specs.Script.{QuestionValue, RoundValue, ScriptValue, queries_for, script}
-use Rattle.catserve.specs.Output.{answer_line, version_line}
-use Rattle.script_text.specs.Texts.{IsReadable, most_script}
-use Rattle.catserve.specs.Rounds.{Outcome, Accepted, Refused, RefusedMo, Unnamed, IsOutcome, outcome_line}
-use Rattle.catserve.specs.Rounds.{accepted_load, Answers, AnswersInTurn, Plays, PlaysAll}
-use Rattle.catserve.specs.Laws.{HasSomeOutput}
+use Rattle.catserve.specs.Rounds.{Outcome}
 use Rattle.catserve.proofs.Sources.{brings_some, brings_formed}
 
 -- where each item has a match, all of them have matches

@@ -1,8 +1,7 @@
 -- What the source of a load brings: one map, or one fault, and never none; and the entries of the map have forms.
-use Rattle.std.proofs.Common.{◌≡◌, ◌∙◌, refl, sym, ap, subst, ℕ, zero, suc, ◌<◌, List, [], ◌∷◌, length, Option, Some}
-use Rattle.std.proofs.Common.{None, arith}
-use Rattle.std.specs.List.{AllByRecursion}
-use Rattle.catalogue.specs.Entry.{Entry, IsLawfulEntry, HasForms}
+use Rattle.catserve.proofs.Common.{◌≡◌, ◌∙◌, refl, sym, ap, subst, ℕ, zero, suc, ◌<◌, List, [], ◌∷◌, length, Option}
+use Rattle.catserve.proofs.Common.{Some, None, arith, AllByRecursion, Entry, IsLawfulEntry, HasForms, SourceValue, Po}
+use Rattle.catserve.proofs.Common.{Mo, Brings, IsSourceFault}
 use Rattle.catalogue.specs.declared.Compiled.{Compiled}
 use Rattle.catalogue.specs.declared.LoadFault.{LoadFault}
 use Rattle.catalogue.proofs.OneMeaning.{meaning_one}
@@ -15,10 +14,8 @@ use Rattle.mo_file.proofs.SomeMap.{some_map}
 use Rattle.live_loads.specs.declared.fault.StoreFault.{StoreFault}
 use Rattle.live_loads.specs.declared.fault.StoreFault.TheVariants as store_fault
 use Rattle.live_loads.proofs.BytesFaults.{text_fault_one, no_text_fault, file_fault_one, no_file_fault}
-use Rattle.script_text.specs.ScriptLoads.{SourceValue, Po, Mo}
 use Rattle.desks.specs.declared.job.Accepted as job
 use Rattle.desks.specs.declared.job.Accepted.TheVariants as accepted
-use Rattle.catserve.specs.Rounds.{Brings, IsSourceFault}
 
 -- ---- one map or one fault
 

@@ -1,10 +1,7 @@
 -- Runs that stop early, by their kinds.
-use Rattle.std.proofs.Common.{◌≡◌, ℕ, List}
-use Rattle.script_text.specs.declared.fault.ScriptKind.{ScriptKind}
+use Rattle.catserve.proofs.Common.{◌≡◌, ℕ, List, ScriptKind, InputSeen, OutputSeen, Fails, EndsPlaying}
 use Rattle.script_text.specs.declared.fault.ScriptKind.TheVariants as kind
-use Rattle.devices.specs.Devices.{InputSeen, OutputSeen}
-use Rattle.catserve.specs.Run.{ReadsText, Fails}
-use Rattle.catserve.specs.Running.{EndsPlaying}
+use Rattle.catserve.specs.Run.{ReadsText}
 
 -- a text that was read whole gave no output
 pub run_fails : {i i' : InputSeen} (o o' : OutputSeen) {text : List ℕ} (k : ScriptKind) (line : ℕ)

@@ -1,6 +1,6 @@
 -- A loop over a list that is taken apart from its front.
-use Rattle.std.proofs.Common.{◌≡◌, ◌∙◌, sym, ap, ℕ, ◌+◌, List, [], ◌∷◌, ◌++◌, length, append_assoc, arith}
-use Rattle.std.proofs.lemmas.List.{append-nil, nil_from_length}
+use Rattle.catserve.proofs.Common.{◌≡◌, ◌∙◌, sym, ap, ℕ, ◌+◌, List, [], ◌∷◌, ◌++◌, length, append_assoc, arith}
+use Rattle.catserve.proofs.Common.{append-nil, nil_from_length}
 
 -- the list is what was taken, followed by what is left; `count` elements are left
 pub record HasTaken {X : Type 0} (all taken left : List X) (count : ℕ) : Type 0 where

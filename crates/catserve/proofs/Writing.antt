@@ -1,13 +1,12 @@
 -- Texts that are written with escapes.
-use Rattle.std.proofs.Common.{◌≡◌, ◌∙◌, refl, sym, ap, ℕ, suc, ◌+◌, ◌<◌, if◌then◌else◌, true}
-use Rattle.std.proofs.Common.{List, [], ◌∷◌, ◌++◌, length, get_or, take, drop, ◌-◌, add-one, drop-cons}
-use Rattle.std.proofs.Common.{length-take, Some, None, Result, Ok, Err, OnOk, arith, append_assoc}
+use Rattle.catserve.proofs.Common.{◌≡◌, ◌∙◌, refl, sym, ap, ℕ, suc, ◌+◌, ◌<◌, if◌then◌else◌, true, List, [], ◌∷◌, ◌++◌}
+use Rattle.catserve.proofs.Common.{length, get_or, take, drop, ◌-◌, add-one, drop-cons, length-take, Some, None, Result}
+use Rattle.catserve.proofs.Common.{Ok, Err, OnOk, arith, append_assoc, get_or-take, take_rest, take-append-drop, escape}
+use Rattle.catserve.proofs.Common.{escaped}
 use Rattle.std.specs.Result.{is_ok}
-use Rattle.std.proofs.lemmas.List.{get_or-take, take_rest, take-append-drop}
 use Rattle.std.proofs.lemmas.List.Concat.{flat_map-append}
 use Rattle.bstr.specs.Bytes.{is_in}
 use Rattle.bstr.specs.Find.{IsFirstByte}
-use Rattle.catserve.specs.Output.{escape, escaped}
 
 -- a byte that needs no escape
 escape-plain : (b : ℕ) → (is_in (10 ∷ 9 ∷ 92 ∷ []) b ≡ true → ⊥) → escape b ≡ b ∷ []

@@ -88,21 +88,19 @@ pub record Hears (i i' : InputSeen) (workers : ℕ) (x y : HearingValue) (comman
   pub number : y.number ≡ x.number + length raw
   pub size : y.size ≡ size_behind commands (x.size + length (concat raw))
 
--- the input has ended
-pub record HearsEnd (i i' : InputSeen) (x y : HearingValue) : Type 0 where
-  pub got : HasGot i i' x.input y.input []
-  pub left : y.input.left ≡ []
-  pub ended : y.input.ended ≡ true
-  pub number : y.number ≡ x.number
-  pub size : y.size ≡ x.size
-
--- ---- why nothing was heard
-
 -- more was read, and else all is as it was
 pub record Stays (i i' : InputSeen) (x y : HearingValue) (lost : List ℕ) : Type 0 where
   pub got : HasGot i i' x.input y.input lost
   pub number : y.number ≡ x.number
   pub size : y.size ≡ x.size
+
+-- the input has ended
+pub record HearsEnd (i i' : InputSeen) (x y : HearingValue) : Type 0 where
+  pub stays : Stays i i' x y []
+  pub left : y.input.left ≡ []
+  pub ended : y.input.ended ≡ true
+
+-- ---- why nothing was heard
 
 -- the next line is bad, whatever comes
 pub record HearsBad (i i' : InputSeen) (workers : ℕ) (x y : HearingValue) (line : ℕ) : Type 0 where

@@ -47,8 +47,11 @@ MayFollow ended text = ended ≡ true → text ≡ []
 
 -- The session has answered the rounds that have ended in the lines `front`, the first ones of its input, and has
 -- written nothing else. What it has read is a text, whose part after those lines is `rest`, and what a fault lost.
-pub record StopsBehind (given : Option ℕ) (i i' : InputSeen) (o o' : OutputSeen) (front : List (List ℕ))
-    (text rest lost : List ℕ) (ended : Bool) : Type 0 where
+pub record Stops (given : Option ℕ) (i i' : InputSeen) (o o' : OutputSeen) (lost : List ℕ) : Type 0 where
+  pub front : List (List ℕ)
+  pub text : List ℕ
+  pub rest : List ℕ
+  pub ended : Bool
   pub read : Consumes i.left i'.left (text ++ lost)
   pub at_end : ended ≡ true → IsAtEnd i'.left
   pub whole : text ≡ concat front ++ rest
@@ -80,26 +83,19 @@ pub record AnswersAll (given : Option ℕ) (i i' : InputSeen) (o o' : OutputSeen
 
 -- the next line is bad, and the first that is, whatever follows
 pub record MeetsBadLine (given : Option ℕ) (i i' : InputSeen) (o o' : OutputSeen) (line : ℕ) : Type 0 where
-  pub front : List (List ℕ)
-  pub text : List ℕ
-  pub rest : List ℕ
-  pub ended : Bool
-  pub stops : StopsBehind given i i' o o' front text rest [] ended
-  pub line_is : IsNext front line
-  pub bad : (more : List ℕ) → MayFollow ended more → said given (lines (text ++ more)) ≡ Err line
+  pub stop : Stops given i i' o o' []
+  pub line_is : IsNext stop.front line
+  pub bad : (more : List ℕ) → MayFollow stop.ended more → said given (lines (stop.text ++ more)) ≡ Err line
 
 -- the next line, with the lines that are its text, isn't UTF-8
 pub record MeetsUndecodable (given : Option ℕ) (i i' : InputSeen) (o o' : OutputSeen) (line : ℕ) : Type 0 where
-  pub front : List (List ℕ)
-  pub text : List ℕ
-  pub rest : List ℕ
-  pub ended : Bool
-  pub stops : StopsBehind given i i' o o' front text rest [] ended
-  pub line_is : IsNext front line
+  pub stop : Stops given i i' o o' []
+  pub line_is : IsNext stop.front line
   pub raw : List (List ℕ)
   pub behind : List ℕ
-  pub begins : rest ≡ concat raw ++ behind
-  pub cut : (more : List ℕ) → MayFollow ended more → lines (text ++ more) ≡ (front ++ raw) ++ lines (behind ++ more)
+  pub begins : stop.rest ≡ concat raw ++ behind
+  pub cut : (more : List ℕ) → MayFollow stop.ended more
+      → lines (stop.text ++ more) ≡ (stop.front ++ raw) ++ lines (behind ++ more)
   pub undecodable : ¬ IsUtf8 (concat raw)
 
 -- the last lines of the front, in which no round has ended
@@ -114,47 +110,35 @@ pub record IsOpenRound (given : Option ℕ) (front round : List (List ℕ)) : Ty
 
 -- the open round has more bytes than a script may have; or the session has more lines than it may have
 pub record MeetsTooMuch (given : Option ℕ) (i i' : InputSeen) (o o' : OutputSeen) (line : ℕ) : Type 0 where
-  pub front : List (List ℕ)
-  pub text : List ℕ
-  pub rest : List ℕ
-  pub ended : Bool
-  pub stops : StopsBehind given i i' o o' front text rest [] ended
-  pub line_is : IsNext front line
+  pub stop : Stops given i i' o o' []
+  pub line_is : IsNext stop.front line
   pub round : List (List ℕ)
-  pub is_open : IsOpenRound given front round
-  pub over : (most_script < length (concat round ++ rest)) ⊎ (most_lines ≤ line)
+  pub is_open : IsOpenRound given stop.front round
+  pub over : (most_script < length (concat round ++ stop.rest)) ⊎ (most_lines ≤ line)
 
 -- the session ends for another reason
 pub record StopsEarly (given : Option ℕ) (i i' : InputSeen) (o o' : OutputSeen) : Type 0 where
-  pub front : List (List ℕ)
-  pub text : List ℕ
-  pub rest : List ℕ
   pub lost : List ℕ
-  pub ended : Bool
-  pub stops : StopsBehind given i i' o o' front text rest lost ended
+  pub stop : Stops given i i' o o' lost
 
--- the rounds that have ended in the lines `front` were answered, and a prefix of the next round's lines was written
+-- the rounds that have ended in some first lines were answered, and a prefix of the next round's lines was written
 pub record BreaksOff (given : Option ℕ) (i i' : InputSeen) (o o' : OutputSeen) : Type 0 where
-  pub front : List (List ℕ)
-  pub text : List ℕ
-  pub rest : List ℕ
-  pub ended : Bool
   pub mid : OutputSeen
-  pub stops : StopsBehind given i i' o mid front text rest [] ended
+  pub stop : Stops given i i' o mid []
   pub lines : List ℕ
-  pub plays : PlaysAll stops.workers [] (stops.rounds ++ stops.ended_are.last ∷ []) (stops.output ++ lines)
+  pub plays : PlaysAll stop.workers [] (stop.rounds ++ stop.ended_are.last ∷ []) (stop.output ++ lines)
   pub written : AppendsFront mid.bytes o'.bytes lines
 
 -- no store was opened: no round has ended, and nothing was written
 pub record NeverOpens (given : Option ℕ) (i i' : InputSeen) (o o' : OutputSeen) : Type 0 where
   pub early : StopsEarly given i i' o o'
-  pub none_ended : early.stops.rounds ≡ []
+  pub none_ended : early.stop.rounds ≡ []
   pub unwritten : o' ≡ o
 
 -- the open round has a question, and the store was closed
 pub record FindsClosed (given : Option ℕ) (i i' : InputSeen) (o o' : OutputSeen) : Type 0 where
   pub early : StopsEarly given i i' o o'
-  pub asked : 0 < length early.stops.ended_are.last.questions
+  pub asked : 0 < length early.stop.ended_are.last.questions
 
 -- why a session ends early
 abbrev pub EndsFor : Option ℕ → InputSeen → InputSeen → OutputSeen → OutputSeen → ScriptKind → ℕ → Type 0

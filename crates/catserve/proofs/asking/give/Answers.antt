@@ -1,4 +1,4 @@
-use Rattle.std.proofs.Common.{get_or, refl, arith}
+use Rattle.catserve.proofs.Common.{get_or, refl, arith}
 use Rattle.catserve.proofs.Asked.{gives_at, gives_none}
 use Rattle.catserve.proofs.asking.give.Goals as goal
 

@@ -1,8 +1,5 @@
-use Rattle.std.proofs.Common.{◌≡◌, ◌∙◌, ◌++◌, ◌∷◌, [], None, ap, arith}
+use Rattle.catserve.proofs.Common.{◌≡◌, ◌∙◌, ◌++◌, ◌∷◌, [], None, ap, arith, map-append, Desk, readers_of}
 use Rattle.catserve.proofs.Turns.{takes_one, takes_all}
-use Rattle.std.proofs.lemmas.List.{map-append}
-use Rattle.desks.specs.declared.desk.Desk.{Desk}
-use Rattle.catserve.specs.Asking.{readers_of}
 use Rattle.catserve.proofs.Asked.{opens_more}
 use Rattle.catserve.proofs.asking.open_desks.Goals as goal
 

@@ -1,6 +1,4 @@
-use Rattle.std.proofs.Common.{◌≡◌, []}
-use Rattle.std.specs.Vec.Iter.{into_iter_items, into_iter_len}
-use Rattle.catserve.specs.Asking.{readers_of, AreAsked}
+use Rattle.catserve.proofs.Common.{◌≡◌, [], into_iter_items, into_iter_len, readers_of, AreAsked}
 use Rattle.catserve.proofs.Turns.{HasTaken}
 use Rattle.catserve.proofs.asking.open_desks.Given as goal
 

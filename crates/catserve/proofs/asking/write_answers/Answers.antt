@@ -1,9 +1,6 @@
-use Rattle.std.proofs.Common.{◌∙◌, ◌++◌, ℕ, List, ap, arith}
-use Rattle.std.specs.Prelude.{string_bytes}
+use Rattle.catserve.proofs.Common.{◌∙◌, ◌++◌, ℕ, List, ap, arith, answer_lines, answer_line, flat_map_more}
+use Rattle.std.proofs.Common.{string_bytes}
 use Rattle.desks.specs.declared.desk.Answer.{Answer}
-use Rattle.catserve.specs.Asking.{answer_lines}
-use Rattle.catserve.specs.Output.{answer_line}
-use Rattle.std.proofs.lemmas.List.{flat_map_more}
 use Rattle.catserve.proofs.Turns.{takes_one, takes_all}
 use Rattle.catserve.proofs.asking.write_answers.Goals as goal
 

@@ -1,4 +1,4 @@
-use Rattle.std.proofs.Common.{◌∙◌, ◌++◌, ◌∷◌, [], ap, sym, append_assoc, codes}
+use Rattle.catserve.proofs.Common.{◌∙◌, ◌++◌, ◌∷◌, [], ap, sym, append_assoc, codes}
 use Rattle.std.specs.Fmt.{decimal}
 use Rattle.catserve.proofs.output.load_line.Goals as goal
 

@@ -1,5 +1,4 @@
-use Rattle.std.proofs.Common.{◌++◌}
-use Rattle.catserve.specs.Output.{escaped}
+use Rattle.catserve.proofs.Common.{◌++◌, escaped}
 use Rattle.catserve.proofs.Writing.{writes_more, writes_all}
 use Rattle.catserve.proofs.output.write_escaped.Goals as goal
 

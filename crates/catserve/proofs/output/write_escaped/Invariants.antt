@@ -1,5 +1,4 @@
-use Rattle.std.proofs.Common.{◌≡◌, ◌++◌, length}
-use Rattle.catserve.specs.Output.{escaped}
+use Rattle.catserve.proofs.Common.{◌≡◌, ◌++◌, length, escaped}
 use Rattle.catserve.proofs.output.write_escaped.Given as goal
 
 abbrev pub invariant-runs : goal.invariant-runs

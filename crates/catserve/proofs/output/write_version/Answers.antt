@@ -1,4 +1,4 @@
-use Rattle.std.proofs.Common.{rules}
+use Rattle.catserve.proofs.Common.{rules}
 use Rattle.catserve.proofs.output.write_version.Goals as goal
 
 pub returns : goal.returns

@@ -1,9 +1,5 @@
-use Rattle.std.proofs.Common.{◌≡◌, ◌∙◌, ◌++◌, refl, sym, ap, arith, []}
-use Rattle.std.proofs.lemmas.List.{append-nil}
-use Rattle.live_versions.specs.Batches.{joined, version_of}
-use Rattle.live_versions.specs.Store.{StoreValue}
-use Rattle.live_versions.specs.Seen.{SeenValue}
-use Rattle.catserve.specs.Asking.{desk_lines}
+use Rattle.catserve.proofs.Common.{◌≡◌, ◌∙◌, ◌++◌, refl, sym, ap, arith, [], append-nil, joined, version_of, StoreValue}
+use Rattle.catserve.proofs.Common.{SeenValue, desk_lines}
 use Rattle.catserve.proofs.Asked.{answers_in_turn, ready_again, ready_still, books_given, none_in_turn, whole_of}
 use Rattle.catserve.proofs.Asked.{done_none}
 use Rattle.catserve.proofs.Playing.{plays_one}

@@ -1,7 +1,4 @@
-use Rattle.std.proofs.Common.{◌≡◌, rules}
-use Rattle.std.specs.List.{flat_map}
-use Rattle.script_text.specs.CommandValues.{listed}
-use Rattle.script_text.specs.Script.{rounds_of}
+use Rattle.catserve.proofs.Common.{◌≡◌, rules, flat_map, listed, rounds_of}
 use Rattle.catserve.proofs.Questions.{ends_playing}
 use Rattle.catserve.proofs.run.output_of.Goals as goal
 

@@ -1,6 +1,5 @@
-use Rattle.std.proofs.Common.{◌≡◌, ◌∙◌, refl, sym, ap, length, arith, rules, length-append, Err}
-use Rattle.std.specs.Vec.Iter.{into_iter_items}
-use Rattle.devices.specs.Devices.{OutputSeen, output_seen}
+use Rattle.catserve.proofs.Common.{◌≡◌, ◌∙◌, refl, sym, ap, length, arith, rules, length-append, Err, into_iter_items}
+use Rattle.catserve.proofs.Common.{OutputSeen, output_seen}
 use Rattle.catserve.proofs.Questions.{cuts_short}
 use Rattle.catserve.proofs.ScriptTalk.{comes_more, comes_none, plays_idle, plays_last, room_for}
 use Rattle.catserve.proofs.Turns.{takes_one, takes_all}

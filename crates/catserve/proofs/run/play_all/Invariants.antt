@@ -1,5 +1,4 @@
-use Rattle.std.specs.Vec.Iter.{into_iter_items, into_iter_len}
-use Rattle.std.proofs.Common.{length}
+use Rattle.catserve.proofs.Common.{into_iter_items, into_iter_len, length}
 use Rattle.catserve.proofs.ScriptTalk.{HasCome}
 use Rattle.catserve.proofs.Turns.{HasTaken}
 use Rattle.catserve.proofs.run.play_all.Given as goal

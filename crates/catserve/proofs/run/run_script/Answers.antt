@@ -1,5 +1,4 @@
-use Rattle.std.proofs.Common.{◌≡◌, refl, rules, Err}
-use Rattle.devices.specs.Devices.{OutputSeen, output_seen}
+use Rattle.catserve.proofs.Common.{◌≡◌, refl, rules, Err, OutputSeen, output_seen}
 use Rattle.catserve.proofs.Stopping.{run_fails}
 use Rattle.catserve.proofs.run.run_script.Goals as goal
 

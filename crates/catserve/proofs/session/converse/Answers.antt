@@ -1,8 +1,5 @@
-use Rattle.std.proofs.Common.{◌∙◌, inr, sym, arith}
-use Rattle.std.proofs.lemmas.Result.{err_from_is_err_and}
-use Rattle.devices.specs.Logs.{Log}
-use Rattle.devices.specs.Devices.{InputSeen, OutputSeen, input_seen, output_seen}
-use Rattle.catserve.specs.Hearing.{command_of}
+use Rattle.catserve.proofs.Common.{◌∙◌, inr, sym, arith, err_from_is_err_and, Log, InputSeen, OutputSeen, input_seen}
+use Rattle.catserve.proofs.Common.{output_seen, command_of}
 use Rattle.catserve.proofs.SessionEnds.{all_answered, fails_so, last_answered, none_ends, taken_stays}
 use Rattle.catserve.proofs.SessionInTime.{gives_none, reads_open, talks_last, talks_more, talks_none}
 use Rattle.catserve.proofs.SessionTalk.{has_room}
@@ -61,7 +58,7 @@ returns-in_err-answer-clause-all g c given first b =
     let inn = sym (g.met.D.Source.sees c.answer.new.writer) ∙ c.in_err-answer.ensures.keeps
     ∙ g.met.D.Source.sees c.hear.new.reader in
     rw (inn, e.1, e.2) (fails_so q c.answer.new.self c.in_err-answer.field-0.0 c.requires.fresh c.lines.invariant.0
-    (record { got = h.got; number = h.number; size = h.size }) (rw out at c.in_err-answer.ensures.fault) b)
+    h.stays (rw out at c.in_err-answer.ensures.fault) b)
 
 pub returns-in_ok-answer-clause-all : goal.returns-in_ok-answer-clause-all
 returns-in_ok-answer-clause-all g c given first b =

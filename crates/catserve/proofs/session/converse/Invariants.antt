@@ -1,6 +1,4 @@
-use Rattle.std.proofs.Common.{◌-◌}
-use Rattle.devices.specs.Devices.{input_seen, output_seen}
-use Rattle.catserve.specs.Timing.{TalksInTime}
+use Rattle.catserve.proofs.Common.{◌-◌, input_seen, output_seen, TalksInTime}
 use Rattle.catserve.proofs.session.converse.Given as goal
 
 abbrev pub invariant-lines : goal.invariant-lines

@@ -1,5 +1,4 @@
-use Rattle.std.proofs.lemmas.Result.{err_from_is_err_and}
-use Rattle.devices.specs.Devices.{OutputSeen, output_seen}
+use Rattle.catserve.proofs.Common.{err_from_is_err_and, OutputSeen, output_seen}
 use Rattle.catserve.proofs.SessionEnds.{stops_unopened}
 use Rattle.catserve.proofs.SessionInTime.{ends_at}
 use Rattle.catserve.proofs.session.converse_by_store.Goals as goal

@@ -1,9 +1,5 @@
-use Rattle.std.proofs.Common.{◌∙◌, ℕ, Option, Some, None, refl, sym, subst}
-use Rattle.std.proofs.lemmas.Result.{err_from_is_err_and}
-use Rattle.devices.specs.Logs.{Log}
-use Rattle.devices.specs.Devices.{InputSeen, OutputSeen, input_seen, output_seen}
-use Rattle.catserve.specs.Timing.{BeginsInTime}
-use Rattle.catserve.specs.Hearing.{HearingValue}
+use Rattle.catserve.proofs.Common.{◌∙◌, ℕ, Option, Some, None, refl, sym, subst, err_from_is_err_and, Log, InputSeen}
+use Rattle.catserve.proofs.Common.{OutputSeen, input_seen, output_seen, BeginsInTime, HearingValue}
 use Rattle.catserve.proofs.SessionEnds.{begins_so, ends_at_once, front_ends}
 use Rattle.catserve.proofs.SessionInTime.{begins_timely, ends_at}
 use Rattle.catserve.proofs.session.run_session.Goals as goal

@@ -1,6 +1,4 @@
-use Rattle.std.proofs.Common.{◌∙◌, ap}
-use Rattle.devices.specs.Devices.{InputSeen, input_seen}
-use Rattle.catserve.specs.Hearing.{HearingValue, line_of_kind}
+use Rattle.catserve.proofs.Common.{◌∙◌, ap, InputSeen, input_seen, HearingValue, line_of_kind}
 use Rattle.catserve.proofs.LinesTaken.{no_line}
 use Rattle.catserve.proofs.SessionHears.{hears_none, none_then}
 use Rattle.catserve.proofs.SessionInTime.{end_heard, in_time_then}

@@ -1,7 +1,5 @@
-use Rattle.std.proofs.Common.{◌∙◌, ◌++◌, ◌∷◌, [], refl, ap, take}
-use Rattle.std.proofs.lemmas.List.{nil_from_length}
-use Rattle.std.proofs.lemmas.Result.{err_from_is_err_and}
-use Rattle.catserve.specs.Hearing.{HearingValue}
+use Rattle.catserve.proofs.Common.{◌∙◌, ◌++◌, ◌∷◌, [], refl, ap, take, nil_from_length, err_from_is_err_and}
+use Rattle.catserve.proofs.Common.{HearingValue}
 use Rattle.catserve.proofs.SessionInTime.{ends_at, passed_last, passed_timely, passes_none}
 use Rattle.catserve.proofs.SessionPreamble.{begins_ended, begins_given, begins_other, passed_more, preamble_fails}
 use Rattle.catserve.proofs.SessionPreamble.{preamble_undecodable}

@@ -1,5 +1,4 @@
-use Rattle.std.proofs.Common.{ℕ, List, ◌-◌, ◌≡◌}
-use Rattle.devices.specs.Devices.{input_seen}
+use Rattle.catserve.proofs.Common.{ℕ, List, ◌-◌, ◌≡◌, input_seen}
 use Rattle.catserve.proofs.SessionInTime.{PassesInTime}
 use Rattle.catserve.proofs.hearing.Hearing.hear_preamble.Given as goal
 

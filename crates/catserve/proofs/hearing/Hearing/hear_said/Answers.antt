@@ -1,5 +1,5 @@
+use Rattle.catserve.proofs.Common.{InputSeen, input_seen}
 use Rattle.script_text.specs.LineValues.{line_value}
-use Rattle.devices.specs.Devices.{InputSeen, input_seen}
 use Rattle.catserve.proofs.SessionWaits.{open_text}
 use Rattle.catserve.proofs.SessionInTime.{said_heard}
 use Rattle.catserve.proofs.SessionHears.{none_text}

@@ -1,11 +1,8 @@
-use Rattle.std.proofs.Common.{◌≡◌, ◌-◌, ◌∙◌, [], ℕ, List, refl, ap, arith, take, drop}
-use Rattle.std.specs.Str.{IsUtf8}
+use Rattle.catserve.proofs.Common.{◌≡◌, ◌-◌, ◌∙◌, [], ℕ, List, refl, ap, arith, take, drop, IsUtf8, InputSeen}
+use Rattle.catserve.proofs.Common.{input_seen, most_script, HearingValue}
 use Rattle.devices.proofs.Arriving.{both}
-use Rattle.devices.specs.Devices.{InputSeen, input_seen}
-use Rattle.script_text.specs.Texts.{most_script}
-use Rattle.catserve.specs.Hearing.{HearingValue}
-use Rattle.catserve.proofs.LinesTaken.{nothing_heard, no_line, stays_whole, text_ends_within, text_within}
-use Rattle.catserve.proofs.LinesTaken.{text_taken, text_undecodable}
+use Rattle.catserve.proofs.LinesTaken.{nothing_heard, no_line, stays_whole, text_ends_within, text_within, text_taken}
+use Rattle.catserve.proofs.LinesTaken.{text_undecodable}
 use Rattle.catserve.proofs.SessionInTime.{text_reads}
 use Rattle.catserve.proofs.SessionWaits.{reads_of as counts_of}
 use Rattle.catserve.proofs.hearing.Hearing.hear_text.Goals as goal

@@ -1,7 +1,5 @@
-use Rattle.std.proofs.Common.{[], refl, arith}
-use Rattle.devices.specs.Waiting.{StillWaits}
+use Rattle.catserve.proofs.Common.{[], refl, arith, StillWaits, HearingValue}
 use Rattle.devices.proofs.Waitings.{waits_none}
-use Rattle.catserve.specs.Hearing.{HearingValue}
 use Rattle.catserve.proofs.LinesTaken.{found_so, nothing_heard, stays_whole}
 use Rattle.catserve.proofs.hearing.Hearing.next_end.Goals as goal
 

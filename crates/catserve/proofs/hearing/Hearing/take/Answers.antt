@@ -1,4 +1,4 @@
-use Rattle.std.proofs.Common.{rules}
+use Rattle.catserve.proofs.Common.{rules}
 use Rattle.catserve.proofs.hearing.Hearing.take.Goals as goal
 
 pub returns : goal.returns

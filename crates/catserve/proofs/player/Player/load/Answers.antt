@@ -1,4 +1,4 @@
-use Rattle.std.proofs.Common.{refl}
+use Rattle.catserve.proofs.Common.{refl}
 use Rattle.catserve.proofs.Playing.{loads_one, most_kept}
 use Rattle.catserve.proofs.player.Player.load.Goals as goal
 

@@ -1,4 +1,4 @@
-use Rattle.std.proofs.Common.{rules}
+use Rattle.catserve.proofs.Common.{rules}
 use Rattle.catserve.proofs.player.Player.respond.Goals as goal
 
 pub returns-in_ok-load-in-LoadsMo-clause-ok : goal.returns-in_ok-load-in-LoadsMo-clause-ok
