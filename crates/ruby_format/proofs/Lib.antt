@@ -1,0 +1,3 @@
+pub mod RubyPartLemmas
+pub mod RubyDirectiveLemmas
+pub mod RubyTextLemmas

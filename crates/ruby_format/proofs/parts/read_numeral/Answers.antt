@@ -1,0 +1,9 @@
+use Rattle.std.proofs.Common.{◌≡◌, true, List, ℕ, sym, subst}
+use Rattle.std.specs.List.{list_all}
+use Rattle.std.specs.Char.{is_ascii_digit}
+use Rattle.numbered_arguments.proofs.NumberLemmas.{run_passes}
+use Rattle.ruby_format.proofs.parts.read_numeral.Goals as goal
+
+pub number_of-requires : goal.number_of-requires
+number_of-requires c = subst (λ (t : List ℕ). list_all is_ascii_digit t ≡ true)
+    (sym c.split_digits.ensures.front) (run_passes is_ascii_digit c.args.text.now)

@@ -1,0 +1,4 @@
+pub mod RubyPieces
+pub mod RubyDirectives
+pub mod RubyFormat
+pub mod RubyScanning
