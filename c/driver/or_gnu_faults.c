@@ -31,6 +31,7 @@ static const struct language {
     {KOB_SCHEME_FORMAT, "scheme-format", "Scheme ", NULL, NULL},
     {KOB_LISP_FORMAT, "lisp-format", "Lisp ", NULL, NULL},
     {KOB_LIBREP_FORMAT, "librep-format", "librep ", NULL, NULL},
+    {KOB_RUBY_FORMAT, "ruby-format", "Ruby ", NULL, NULL},
     {KOB_SH_FORMAT, "sh-format", "Shell ", NULL, NULL},
     {KOB_AWK_FORMAT, "awk-format", "awk ", NULL, NULL},
     {KOB_LUA_FORMAT, "lua-format", "Lua ", NULL, NULL},

@@ -84,6 +84,9 @@ KUIT = ("%1", "%1", "%2", "%3", "<link>%1</link>", "<b/>", "<a b='1'>x</a>", "<A
         "<!-- c %2 -->", "<![CDATA[ < & ]]>", "<?go?>", "</a >", "<a>", "<\u00e9/>", "<a b='1>'/>")  # fmt: skip
 KUIT_FAULTS = ("<", "</a>", "<a>", "<a></b>", "<br>", "a < b", "]]>", "&#0;", "&#xD800;", "&#x;", "<a%1/>", "<a b/>", "<!-- -- -->", "<a b='<'/>",
                "<a b='1'c='2'/>", "<a b='1' b='2'/>", "<?xml?>", "<![CDATA[", "<!x>", "%4")  # fmt: skip
+RUBY = ("%s", "%s", "%d", "%d", "%1$s", "%1$s", "%2$d", "%3$d", "%<a>s", "%<a>s", "%{a}", "%{b}", "%<b>d", "%5<b>.2d", "%x", "%f", "%c", "%p", "%%",
+        "%5%", "%1$%", "%<a>%", "%*d", "%.*f", "%2$*1$d", "%-05.2f", "%4294967297$s")  # fmt: skip
+RUBY_FAULTS = ("%", "%y", "%F", "%5-d", "%.5-d", "%.5*d", "%**d", "%..d", "%0$s", "%*0$d", "%1$2$d", "%<a>{b}", "%<a>1$d", "%<a", "%{a", "%1$", "%\u00e9")
 # The other languages that are checked, each with directives and with faults. A loop of Lisp's is left to GNU msgfmt.
 OTHERS = {
     "kde-format": (tuple(text for text in NUMBERS if text[1] not in "Ln0") + ("%1", "%2"), NUMBER_FAULTS),
@@ -109,6 +112,7 @@ OTHERS = {
     "gcc-internal-format": (GCC, GCC_FAULTS),
     "scheme-format": (SCHEME, SCHEME_FAULTS),
     "lisp-format": (LISP, LISP_FAULTS),
+    "ruby-format": (RUBY, RUBY_FAULTS),
 }
 LANGUAGES = {"python-format": (PERCENT, PERCENT_FAULTS), "python-brace-format": (BRACE, BRACE_FAULTS), **OTHERS}
 FAULT = re.compile(rb"^[^\n:]*:(\d+): (.*)$")

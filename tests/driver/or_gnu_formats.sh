@@ -81,6 +81,8 @@ fault '.NET, one more' csharp-format '{0}' '{1}' "$differ"
 fault '.NET, no number' csharp-format '{0}' '{' "'msgstr' is not a valid C# format string, unlike 'msgid'."
 fault 'librep, a character' librep-format '%d' '%c' "$differ"
 fault 'librep, no conversion' librep-format '%d' '%y' "'msgstr' is not a valid librep format string, unlike 'msgid'."
+fault 'Ruby, another kind' ruby-format '%d' '%s' "$differ"
+fault 'Ruby, a flag after the width' ruby-format '%d' '%5-d' "'msgstr' is not a valid Ruby format string, unlike 'msgid'."
 fault 'GCC, another kind' gcc-internal-format '%qD' '%qT' "$differ"
 fault 'GCC, no conversion' gcc-internal-format '%d' '%y' "'msgstr' is not a valid GCC internal format string, unlike 'msgid'."
 fault 'Scheme, any object' scheme-format '~d' '~a' "$differ"
@@ -150,6 +152,7 @@ served 'no fault, Java' ours java-format '{0,number} {1}' '{1} {0,choice,0#no|1<
 served 'no fault, java.util.Formatter' ours java-printf-format '%d %s' '%2$s %1$d' -c
 served 'no fault, .NET' ours csharp-format '{0} {1}' '{1,5} {0:X}' -c
 served 'no fault, librep' ours librep-format '%d %s' '%2$s %1$d' -c
+served 'no fault, Ruby' ours ruby-format '%<a>d %{b}' '%<b>s %5<a>d' -c
 served 'no fault, GCC' ours gcc-internal-format '%qD %m' '%m %J' -c
 served 'no fault, Scheme' ours scheme-format '~a ~d~:p' '~s, ~x' -c
 served 'no fault, Lisp' ours lisp-format "~10,'0d ~a" '~d ~w' -c

@@ -6,10 +6,11 @@ use Rattle.format_arguments.specs.declared.FormatFault.TheVariants.{Invalid, Mem
 use Rattle.format_flags.specs.declared.languages.Language.{Language}
 use Rattle.format_flags.specs.declared.languages.Language.TheVariants.{Python, PythonBrace, Shell, PerlBrace}
 use Rattle.format_flags.specs.declared.languages.Language.TheVariants.{Java, JavaPrintf, CSharp, Librep, KdeKuit, Php}
-use Rattle.format_flags.specs.declared.languages.Language.TheVariants.{GccInternal}
+use Rattle.format_flags.specs.declared.languages.Language.TheVariants.{GccInternal, Ruby}
 use Rattle.python_format.specs.Format as python_format
 use Rattle.python_brace_format.specs.BraceFormat as brace_format
 use Rattle.php_format.specs.PhpFormat as php_format
+use Rattle.ruby_format.specs.RubyFormat as ruby_format
 use Rattle.named_formats.specs.declared.Notation.TheVariants as names
 use Rattle.named_formats.specs.NameFormat as named_formats
 use Rattle.numbered_formats.specs.declared.Notation.{Notation as NumberNotation}
@@ -32,6 +33,10 @@ pub brace : (text : List ℕ) (fault : FormatFault) → brace_format.HasFault te
     → FailsNamed PythonBrace text fault
 brace text Invalid none = none
 brace text Memory none = none
+
+pub ruby : (text : List ℕ) (fault : FormatFault) → ruby_format.HasFault text fault → FailsNamed Ruby text fault
+ruby text Invalid none = none
+ruby text Memory none = none
 
 pub shell : (text : List ℕ) (fault : FormatFault) → named_formats.HasFault names.Shell text fault
     → FailsNamed Shell text fault

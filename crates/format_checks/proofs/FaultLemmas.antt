@@ -12,7 +12,7 @@ use Rattle.format_arguments.specs.declared.FormatFault.{FormatFault}
 use Rattle.format_arguments.specs.declared.FormatFault.TheVariants.{Invalid, Memory}
 use Rattle.format_arguments.specs.declared.Strictness.{Strictness}
 use Rattle.format_flags.specs.declared.languages.Language.TheVariants.{Python, PythonBrace, Shell, PerlBrace}
-use Rattle.format_flags.specs.declared.languages.Language.TheVariants.{ObjectiveC, Scheme, Lisp}
+use Rattle.format_flags.specs.declared.languages.Language.TheVariants.{ObjectiveC, Scheme, Lisp, Ruby}
 use Rattle.format_arguments.specs.Arguments.{Argument}
 use Rattle.numbered_arguments.specs.declared.Numbered as code_numbered
 use Rattle.lisp_formats.specs.declared.Kind as code_placed
@@ -142,6 +142,7 @@ never_numbered : (language : Language) (text : List ℕ) (asked : List code_numb
     → is_named language ≡ true → ListsNumbered language text asked → ⊥
 never_numbered Python text asked is x = x
 never_numbered PythonBrace text asked is x = x
+never_numbered Ruby text asked is x = x
 never_numbered Shell text asked is x = x
 never_numbered PerlBrace text asked is x = x
 never_numbered _ text asked is x = absurd (cc is)
@@ -150,6 +151,7 @@ never_named : (language : Language) (text : List ℕ) (asked : List Argument) �
     → ListsNamed language text asked → ⊥
 never_named Python text asked is x = absurd (cc is)
 never_named PythonBrace text asked is x = absurd (cc is)
+never_named Ruby text asked is x = absurd (cc is)
 never_named Shell text asked is x = absurd (cc is)
 never_named PerlBrace text asked is x = absurd (cc is)
 never_named _ text asked is x = x

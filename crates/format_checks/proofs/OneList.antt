@@ -21,7 +21,7 @@ use Rattle.php_format.proofs.PhpDirectiveLemmas as php_lemmas
 use Rattle.format_flags.specs.declared.languages.Language.{Language}
 use Rattle.format_flags.specs.declared.languages.Language.TheVariants.{Python, PythonBrace, Shell, PerlBrace, Php}
 use Rattle.format_flags.specs.declared.languages.Language.TheVariants.{Java, JavaPrintf, CSharp, Librep, KdeKuit}
-use Rattle.format_flags.specs.declared.languages.Language.TheVariants.{GccInternal}
+use Rattle.format_flags.specs.declared.languages.Language.TheVariants.{GccInternal, Ruby}
 use Rattle.named_formats.specs.declared.Notation.{Notation as Names}
 use Rattle.named_formats.specs.declared.Notation.TheVariants as names
 use Rattle.named_formats.specs.NameDirectives as name_directives
@@ -40,6 +40,7 @@ use Rattle.script_formats.proofs.ScriptDirectiveLemmas as script_lemmas
 use Rattle.java_formats.proofs.ReadingLemmas.{one_list as one_of_java}
 use Rattle.java_printf_format.proofs.PrintfTextLemmas.{one_list as one_of_java_printf}
 use Rattle.csharp_format.proofs.CSharpTextLemmas.{one_list as one_of_csharp}
+use Rattle.ruby_format.proofs.RubyTextLemmas.{one_list as one_of_ruby}
 use Rattle.librep_format.proofs.LibrepTextLemmas.{one_list as one_of_librep}
 use Rattle.gcc_internal_format.proofs.GccTextLemmas.{one_of_gcc}
 use Rattle.format_checks.specs.declared.Difference.{Difference}
@@ -69,6 +70,7 @@ one_named Python text a b x y =
     one_signature percent python.DirectiveAt python_lemmas.are_directives python.asks text a b x y
 one_named PythonBrace text a b x y =
     one_signature open_brace brace.DirectiveAt brace_lemmas.are_directives brace.asks text a b x y
+one_named Ruby text a b x y = one_of_ruby text a b x y
 one_named Shell text a b x y = of_names names.Shell text a b x y
 one_named PerlBrace text a b x y = of_names names.PerlBrace text a b x y
 one_named _ text a b x y = absurd x

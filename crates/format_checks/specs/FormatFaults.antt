@@ -8,7 +8,7 @@ use Rattle.format_flags.specs.declared.languages.Language.TheVariants.{Python, P
 use Rattle.format_flags.specs.declared.languages.Language.TheVariants.{JavaScript, Shell, Awk, Lua, ObjectPascal}
 use Rattle.format_flags.specs.declared.languages.Language.TheVariants.{Smalltalk, Qt, QtPlural, Kde, Tcl, Perl}
 use Rattle.format_flags.specs.declared.languages.Language.TheVariants.{Librep, KdeKuit, Boost, Scheme, Lisp}
-use Rattle.format_flags.specs.declared.languages.Language.TheVariants.{PerlBrace, Php, GccInternal, Ycp}
+use Rattle.format_flags.specs.declared.languages.Language.TheVariants.{PerlBrace, Php, GccInternal, Ycp, Ruby}
 use Rattle.format_checks.specs.declared.Difference.{Difference}
 use Rattle.format_checks.specs.declared.Difference.TheVariants.{Invalid, Arguments}
 use Rattle.format_checks.specs.declared.Difference.TheVariants as differences
@@ -53,8 +53,8 @@ flagged_questions e often language = if has e.flags language then questions e of
 -- the languages whose formats are checked
 abbrev pub checked : List Language
 checked =
-    Python ∷ PythonBrace ∷ Java ∷ JavaPrintf ∷ CSharp ∷ JavaScript ∷ Scheme ∷ Lisp ∷ Librep ∷ Shell ∷ Awk ∷ Lua
-    ∷ ObjectPascal ∷ Smalltalk ∷ Qt ∷ QtPlural ∷ Kde ∷ KdeKuit ∷ Boost ∷ Tcl ∷ Perl ∷ PerlBrace ∷ Php
+    Python ∷ PythonBrace ∷ Java ∷ JavaPrintf ∷ CSharp ∷ JavaScript ∷ Scheme ∷ Lisp ∷ Librep ∷ Ruby ∷ Shell ∷ Awk
+    ∷ Lua ∷ ObjectPascal ∷ Smalltalk ∷ Qt ∷ QtPlural ∷ Kde ∷ KdeKuit ∷ Boost ∷ Tcl ∷ Perl ∷ PerlBrace ∷ Php
     ∷ GccInternal ∷ Ycp ∷ []
 
 -- those of each language that the entry is flagged with

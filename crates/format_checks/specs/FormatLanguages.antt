@@ -13,11 +13,12 @@ use Rattle.format_flags.specs.declared.languages.Language.TheVariants.{Python, P
 use Rattle.format_flags.specs.declared.languages.Language.TheVariants.{JavaScript, Shell, Awk, Lua, ObjectPascal}
 use Rattle.format_flags.specs.declared.languages.Language.TheVariants.{Smalltalk, Qt, QtPlural, Kde, Tcl, Perl}
 use Rattle.format_flags.specs.declared.languages.Language.TheVariants.{Librep, KdeKuit, Boost, Scheme, Lisp}
-use Rattle.format_flags.specs.declared.languages.Language.TheVariants.{PerlBrace, Php, GccInternal, Ycp}
+use Rattle.format_flags.specs.declared.languages.Language.TheVariants.{PerlBrace, Php, GccInternal, Ycp, Ruby}
 use Rattle.python_format.specs.Format as python
 use Rattle.python_brace_format.specs.BraceFormat as brace
 use Rattle.python_brace_format.specs.BraceAgreement as brace_agreement
 use Rattle.php_format.specs.PhpFormat as php
+use Rattle.ruby_format.specs.RubyFormat as ruby
 use Rattle.named_formats.specs.declared.Notation.TheVariants as names
 use Rattle.named_formats.specs.NameFormat as named_formats
 use Rattle.numbered_formats.specs.declared.Notation.{Notation as NumberNotation}
@@ -48,6 +49,7 @@ use Rattle.lisp_formats.specs.LispAgreement as lisp_agreement
 abbrev pub ListsNamed : Language → List ℕ → List Argument → Type 0
 ListsNamed Python text asked = python.HasSignature text asked
 ListsNamed PythonBrace text asked = brace.HasSignature text asked
+ListsNamed Ruby text asked = ruby.HasSignature text asked
 ListsNamed Shell text asked = named_formats.HasSignature names.Shell text asked
 ListsNamed PerlBrace text asked = named_formats.HasSignature names.PerlBrace text asked
 ListsNamed _ text asked = ⊥
@@ -137,6 +139,7 @@ ListsPlaced language text asked =
 abbrev pub is_named : Language → Bool
 is_named Python = true
 is_named PythonBrace = true
+is_named Ruby = true
 is_named Shell = true
 is_named PerlBrace = true
 is_named _ = false

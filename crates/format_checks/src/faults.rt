@@ -113,6 +113,7 @@ const CHECKED: &[Language] = &[
     Language::Scheme,
     Language::Lisp,
     Language::Librep,
+    Language::Ruby,
     Language::Shell,
     Language::Awk,
     Language::Lua,

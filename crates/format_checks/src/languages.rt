@@ -41,12 +41,16 @@ fn is_named(language: Language) -> bool
 {
     matches!(
         language,
-        Language::Python | Language::PythonBrace | Language::Shell | Language::PerlBrace
+        Language::Python
+            | Language::PythonBrace
+            | Language::Ruby
+            | Language::Shell
+            | Language::PerlBrace
     )
 }
 
 /// The arguments of a format with names.
-#[tactic(auto, using(crate::proofs::Failing::python, crate::proofs::Failing::brace, crate::proofs::Failing::shell, crate::proofs::Failing::perl_brace))]
+#[tactic(auto, using(crate::proofs::Failing::python, crate::proofs::Failing::brace, crate::proofs::Failing::ruby, crate::proofs::Failing::shell, crate::proofs::Failing::perl_brace))]
 fn named_arguments(
     alloc: Global,
     language: Language,
@@ -58,6 +62,7 @@ fn named_arguments(
     match language {
         Language::Python => python_format::signature(alloc, text),
         Language::PythonBrace => python_brace_format::signature(alloc, text),
+        Language::Ruby => ruby_format::signature(alloc, text),
         Language::Shell => named_formats::signature(alloc, Names::Shell, text),
         Language::PerlBrace => named_formats::signature(alloc, Names::PerlBrace, text),
         _ => Err(FormatFault::Invalid),
