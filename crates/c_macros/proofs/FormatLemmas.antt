@@ -5,16 +5,12 @@ use Rattle.std.specs.Prelude.{slice_get}
 use Rattle.std.specs.List.{flat_map}
 use Rattle.format_arguments.specs.Text.{IsFormat, SkipsPlain}
 use Rattle.format_arguments.proofs.TextLemmas.{one_asked}
-use Rattle.c_signature.specs.Pieces.{percent}
 use Rattle.c_signature.specs.Directives as c
 use Rattle.c_signature.specs.Signature as plain
 use Rattle.c_signature.specs.declared.ArgKind.{ArgKind}
 use Rattle.c_signature.proofs.RequestLemmas.{contains_map, map_contains}
-use Rattle.c_macros.specs.declared.Kind.{Kind}
-use Rattle.c_macros.specs.declared.Kind.TheVariants.{Plain}
-use Rattle.c_macros.specs.declared.requests.Request.{Request}
-use Rattle.c_macros.specs.MacroDirectives.{Spelled, DirectiveAt, requests, plain_request}
-use Rattle.c_macros.specs.MacroFormat.{HasPlace, AsksFor, Lists}
+use Rattle.c_macros.specs.MacroDirectives.{Spelled, DirectiveAt, requests, plain_request, Kind, Plain, Request}
+use Rattle.c_macros.specs.MacroFormat.{HasPlace, AsksFor, Lists, percent}
 use Rattle.c_macros.proofs.MacroDirectiveLemmas.{are_directives}
 use Rattle.c_macros.proofs.ListLemmas.{one_list}
 

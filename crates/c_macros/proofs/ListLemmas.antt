@@ -12,11 +12,7 @@ use Rattle.std.proofs.lemmas.List.Sorted.{IsPermutation-sym, Contains-permutatio
 use Rattle.std.proofs.lemmas.Option.{slice_get_within}
 use Rattle.std.proofs.lemmas.Bool.{cases_lt}
 use Rattle.c_signature.proofs.RequestLemmas.{contains_first}
-use Rattle.c_macros.specs.declared.Kind.{Kind}
-use Rattle.c_macros.specs.declared.MacroFault.{MacroFault}
-use Rattle.c_macros.specs.declared.MacroFault.TheVariants.{Invalid, Memory}
-use Rattle.c_macros.specs.declared.requests.Request.{Request}
-use Rattle.c_macros.specs.MacroFormat.{InOrder, ByNumber, HasPlace, AsksFor}
+use Rattle.c_macros.specs.MacroFormat.{InOrder, ByNumber, HasPlace, AsksFor, Kind, MacroFault, Invalid, Memory, Request}
 use Rattle.c_macros.specs.MacroScanning.{is_numbered, IsRising, IsInvalidOnly}
 
 -- ---- whether any is numbered

@@ -10,11 +10,9 @@ use Rattle.c_signature.proofs.PartLemmas.{longest_one, number_value}
 use Rattle.c_signature.proofs.DirectiveLemmas as plain
 use Rattle.c_signature.proofs.DirectiveLemmas.{head_one}
 use Rattle.c_signature.proofs.FormatLemmas as plain_format
-use Rattle.c_macros.specs.declared.Kind.{Kind}
-use Rattle.c_macros.specs.declared.Split.{Split}
-use Rattle.c_macros.specs.Macros.{MacroAt}
+use Rattle.c_macros.specs.Macros.{MacroAt, Kind}
 use Rattle.c_macros.specs.MacroDirectives.{Directive, Spelled, Named, NamedAt, DirectiveAt}
-use Rattle.c_macros.specs.MacroSplits.{HasPartsAt, Parted, PartedAt, flag_splits, head_splits, macro_split}
+use Rattle.c_macros.specs.MacroSplits.{HasPartsAt, Parted, PartedAt, flag_splits, head_splits, macro_split, Split}
 use Rattle.c_macros.proofs.MacroLemmas.{macro_one, macro_shorter}
 
 longest_within : {V : Type 0} (Form : V → List ℕ → Type 0) (v : V) (text rest : List ℕ) → Longest Form v text rest

@@ -6,8 +6,7 @@ use Rattle.std.proofs.lemmas.List.{append_cancel_left, length-append}
 use Rattle.c_signature.specs.Directives.{is_name_byte, is_macro_conversion}
 use Rattle.c_signature.specs.FormatScanning.{IsRun}
 use Rattle.c_signature.proofs.Runs.{one_run}
-use Rattle.c_macros.specs.declared.Kind.{Kind}
-use Rattle.c_macros.specs.Macros.{kind_of, MacroAt}
+use Rattle.c_macros.specs.Macros.{kind_of, MacroAt, Kind}
 
 -- the parts of a macro, by the run of the bytes of its name
 pub macro_reads : (t behind name over more : List ℕ) (conversion : ℕ) (kind : Kind) → t ≡ conversion ∷ behind

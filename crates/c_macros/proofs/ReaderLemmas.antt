@@ -8,38 +8,14 @@ use Rattle.c_signature.specs.Conversions.{Argument, Undefined, Nothing, One, arg
 use Rattle.c_signature.specs.Directives.{Head, TailAt, IsAllowed}
 use Rattle.c_signature.specs.Signature as plain
 use Rattle.c_signature.proofs.DirectiveLemmas.{head_one, tail_needs, tail_allows}
-use Rattle.c_macros.specs.declared.Kind.{Kind}
 use Rattle.c_macros.specs.declared.conversions.Argument as code_argument
 use Rattle.c_macros.specs.declared.directives.Head as code_head
 use Rattle.c_macros.specs.declared.directives.Directive as code_directive
-use Rattle.c_macros.specs.declared.requests.Request.{Request}
-use Rattle.c_macros.specs.Macros.{MacroAt}
-use Rattle.c_macros.specs.MacroDirectives.{Directive, Spelled, Named, DirectiveAt, plain_request, amounts}
+use Rattle.c_macros.specs.Macros.{MacroAt, Kind}
+use Rattle.c_macros.specs.MacroDirectives.{Directive, Spelled, Named, DirectiveAt, plain_request, amounts, Request}
 use Rattle.c_macros.specs.MacroScanning.{amount_view, argument_view, head_view, ReadsHead, HasNoTail, ReadsTail}
 use Rattle.c_macros.specs.MacroScanning.{ReadsDirective, own_of, own_requests, spelled}
 use Rattle.c_macros.proofs.MacroDirectiveLemmas.{places}
-
--- ---- heads
-
-pub head_read : (h : code_head.Head) (text behind_number behind_flags behind_width rest : List ℕ)
-    → Longest NumberForm h.number text behind_number → Longest FlagsForm h.flags.now behind_number behind_flags
-    → Longest WidthForm (amount_view h.width) behind_flags behind_width
-    → Longest PrecisionForm (amount_view h.precision) behind_width rest → h.flags_left ≡ length behind_number
-    → ReadsHead h (percent ∷ text) rest
-head_read h text behind_number behind_flags behind_width rest number flags width precision left = (
-  record {
-    behind_percent = text;
-    behind_number = behind_number;
-    behind_flags = behind_flags;
-    behind_width = behind_width;
-    begins = refl;
-    number_at = number;
-    flags_at = flags;
-    width_at = width;
-    precision_at = precision;
-  },
-  left,
-)
 
 -- ---- tails
 

@@ -5,21 +5,12 @@ use Rattle.std.specs.Prelude.{◌==◌}
 use Rattle.std.specs.List.{flat_map}
 use Rattle.std.proofs.lemmas.Bool.{cases_Bool}
 use Rattle.std.proofs.lemmas.List.{append-nil, append_assoc, length-append, length-take-le, take_more}
-use Rattle.format_arguments.specs.Text.{IsFormat}
 use Rattle.format_arguments.proofs.TextLemmas.{one_asked}
-use Rattle.c_signature.specs.Pieces.{percent}
 use Rattle.c_signature.specs.Directives as c
-use Rattle.c_signature.specs.Directives.{Head, HeadAt}
-use Rattle.c_macros.specs.declared.Kind.{Kind}
-use Rattle.c_macros.specs.declared.MacroFault.{MacroFault}
-use Rattle.c_macros.specs.declared.MacroFault.TheVariants.{Invalid}
-use Rattle.c_macros.specs.declared.Split.{Split}
-use Rattle.c_macros.specs.declared.Side.{Side}
-use Rattle.c_macros.specs.MacroDirectives.{Directive, Spelled, Named}
-use Rattle.c_macros.specs.MacroFormat.{Lists, IsInvalid}
-use Rattle.c_macros.specs.MacroScanning.{HasNoParts}
+use Rattle.c_macros.specs.MacroDirectives.{Directive, Spelled, Named, Head, HeadAt}
+use Rattle.c_macros.specs.MacroFormat.{IsInvalid, IsFormat, percent}
 use Rattle.c_macros.specs.MacroSplits.{other_digits, split, flag_splits, head_splits, macro_split, Parted, HasPartsAt}
-use Rattle.c_macros.specs.MacroSplits.{PartedAt, HasParts, IsOf, Splits, IsSplitAt, AreWithin}
+use Rattle.c_macros.specs.MacroSplits.{PartedAt, HasParts, IsOf, Splits, IsSplitAt, AreWithin, Split, Side}
 use Rattle.c_macros.proofs.MacroLemmas.{macro_shorter}
 use Rattle.c_macros.proofs.MacroDirectiveLemmas.{places, are_parted}
 
@@ -147,10 +138,6 @@ not_of side text parts has other others splits =
 
 -- ---- the parts of a text on one side
 
-pub has_splits : (side : Side) (text : List ℕ) (kinds : List Kind) (parts : List Split) → Lists text kinds
-    → HasParts text parts → IsOf side parts → IsSplitAt side text parts
-has_splits side text kinds parts lists has of = inl (record { kinds = kinds; lists = lists; has = has; of = of })
-
 pub none_invalid : (side : Side) (text : List ℕ) (none : List Split) → none ≡ [] → IsInvalid text
     → IsSplitAt side text none
 none_invalid side text none e invalid = inr (e, λ others splits. invalid splits.kinds splits.lists)
@@ -158,9 +145,3 @@ none_invalid side text none e invalid = inr (e, λ others splits. invalid splits
 pub none_of : (side : Side) (text : List ℕ) (parts none : List Split) → none ≡ [] → HasParts text parts
     → (IsOf side parts → ⊥) → IsSplitAt side text none
 none_of side text parts none e has other = inr (e, not_of side text parts has other)
-
-pub none_found : (side : Side) (text : List ℕ) (none : List Split) (fault : MacroFault) → none ≡ [] → fault ≡ Invalid
-    → HasNoParts text fault → IsSplitAt side text none
-none_found side text none fault e is lacks =
-    let nothing : HasNoParts text Invalid = subst (λ (f : MacroFault). HasNoParts text f) is lacks in
-    inr (e, λ others splits. nothing others splits.has)

@@ -2,12 +2,10 @@
 use Rattle.std.specs.Prelude.{ℕ, List, [], ◌∷◌, ◌++◌, map, Option}
 use Rattle.c_signature.specs.Pieces.{Amount}
 use Rattle.c_signature.specs.Directives as c
-use Rattle.c_signature.specs.Directives.{Head, HeadAt, own_argument}
+pub use Rattle.c_signature.specs.Directives.{Head, HeadAt, own_argument}
 use Rattle.c_signature.specs.Signature as plain
-use Rattle.c_macros.specs.declared.Kind.{Kind}
-use Rattle.c_macros.specs.declared.Kind.TheVariants.{Plain}
-use Rattle.c_macros.specs.declared.requests.Request.{Request}
-use Rattle.c_macros.specs.Macros.{MacroAt}
+pub use Rattle.c_macros.specs.declared.requests.Request.{Request}
+pub use Rattle.c_macros.specs.Macros.{MacroAt, Kind, Plain}
 
 -- a directive of the C standard, or one with a macro in place of its length modifier and conversion
 pub data Directive : Type 0 where

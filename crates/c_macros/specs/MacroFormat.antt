@@ -1,13 +1,11 @@
 -- The argument list of a C format with macros (C standard, 7.21.6.1 and 7.8.1; POSIX, fprintf).
 use Rattle.std.specs.Prelude.{◌≡◌, ℕ, ◌+◌, ◌<◌, List, length, map, None, Some, ◌⊎◌, Contains, slice_get}
 use Rattle.std.specs.List.{flat_map}
-use Rattle.format_arguments.specs.Text.{IsFormat}
-use Rattle.c_signature.specs.Pieces.{percent}
-use Rattle.c_macros.specs.declared.Kind.{Kind}
-use Rattle.c_macros.specs.declared.MacroFault.{MacroFault}
-use Rattle.c_macros.specs.declared.MacroFault.TheVariants.{Invalid, Memory}
-use Rattle.c_macros.specs.declared.requests.Request.{Request}
-use Rattle.c_macros.specs.MacroDirectives.{Directive, DirectiveAt, requests}
+pub use Rattle.format_arguments.specs.Text.{IsFormat}
+pub use Rattle.c_signature.specs.Pieces.{percent}
+pub use Rattle.c_macros.specs.declared.MacroFault.{MacroFault}
+pub use Rattle.c_macros.specs.declared.MacroFault.TheVariants.{Invalid, Memory}
+pub use Rattle.c_macros.specs.MacroDirectives.{Directive, DirectiveAt, requests, Kind, Request}
 
 -- ---- the list of what is asked for, as in the definitions of c_signature
 

@@ -1,6 +1,7 @@
 -- Private: what the readers of directives and of their parts guarantee to one another.
 use Rattle.std.specs.Prelude.{◌≡◌, ℕ, ◌-◌, ◌≤◌, Bool, List, [], ◌∷◌, ◌++◌, length, Option, None, Some, is_some}
 use Rattle.std.specs.Option.{unwrap_or}
+use Rattle.std.specs.List.{flat_map}
 use Rattle.std.specs.List.Sorted.{IsNonDecreasingBy}
 use Rattle.c_signature.specs.Pieces.{Amount, Fixed, Asked, Modifier, Of, LongDouble}
 use Rattle.c_signature.specs.Conversions.{Argument, Undefined, Nothing, One, argument_of}
@@ -15,14 +16,9 @@ use Rattle.c_macros.specs.declared.conversions.Argument.TheVariants as arguments
 use Rattle.c_macros.specs.declared.directives.Head as code_head
 use Rattle.c_macros.specs.declared.directives.Named as code_named
 use Rattle.c_macros.specs.declared.directives.Directive as code_directive
-use Rattle.c_macros.specs.declared.requests.Request.{Request}
-use Rattle.c_macros.specs.declared.Kind.{Kind}
-use Rattle.c_macros.specs.declared.Kind.TheVariants.{Plain}
-use Rattle.c_macros.specs.declared.Split.{Split}
-use Rattle.c_macros.specs.declared.MacroFault.{MacroFault}
-use Rattle.c_macros.specs.declared.MacroFault.TheVariants.{Invalid, Memory}
-use Rattle.c_macros.specs.MacroDirectives.{Directive, request, amounts, requests}
-use Rattle.c_macros.specs.MacroSplits.{split, flag_splits, HasPartsAt, HasParts}
+pub use Rattle.c_macros.specs.MacroDirectives.{Directive, request, amounts, requests, Request, Kind, Plain}
+use Rattle.c_macros.specs.MacroFormat.{IsMacroFormat, MacroFault, Invalid, Memory}
+use Rattle.c_macros.specs.MacroSplits.{split, flag_splits, HasPartsAt, HasParts, Split}
 
 -- ---- the enums of the code
 
@@ -119,7 +115,9 @@ IsInvalidOnly Memory P = Unit {0}
 
 -- ---- texts
 
--- the text isn't made of directives and plain text; Memory says nothing about the text
-abbrev pub HasNoParts : List ℕ → MacroFault → Type 0
-HasNoParts text Invalid = (parts : List Split) → ¬ HasParts text parts
-HasNoParts text Memory = Unit {0}
+-- the text is directives and plain text; this is what the directives ask for, and these are their parts
+pub record IsRead (text : List ℕ) (asked : List Request) (parts : List Split) : Type 0 where
+  pub directives : List Directive
+  pub format : IsMacroFormat directives text
+  pub asked_is : asked ≡ flat_map requests directives
+  pub parts_are : HasParts text parts

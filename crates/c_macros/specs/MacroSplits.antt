@@ -3,16 +3,12 @@
 use Rattle.std.specs.Prelude.{◌≡◌, ℕ, ◌+◌, ◌-◌, ◌≤◌, ◌<◌, ◌==◌, if◌then◌else◌, List, [], ◌∷◌, ◌++◌, length}
 use Rattle.std.specs.Prelude.{◌⊎◌, Bool, true, not}
 use Rattle.std.specs.List.{flat_map, list_all}
-use Rattle.format_arguments.specs.Text.{IsFormat}
-use Rattle.c_signature.specs.Pieces.{percent}
 use Rattle.c_signature.specs.Directives as c
-use Rattle.c_signature.specs.Directives.{Head, HeadAt}
-use Rattle.c_macros.specs.declared.Kind.{Kind}
-use Rattle.c_macros.specs.declared.Split.{Split}
-use Rattle.c_macros.specs.declared.Side.{Side}
+pub use Rattle.c_macros.specs.declared.Split.{Split}
+pub use Rattle.c_macros.specs.declared.Side.{Side}
 use Rattle.c_macros.specs.declared.Side.TheVariants.{Original, Translation}
-use Rattle.c_macros.specs.MacroDirectives.{Directive, Spelled, Named, NamedAt}
-use Rattle.c_macros.specs.MacroFormat.{Lists}
+use Rattle.c_macros.specs.MacroDirectives.{Directive, Spelled, Named, NamedAt, Head, HeadAt, Kind}
+use Rattle.c_macros.specs.MacroFormat.{Lists, IsFormat, percent}
 
 -- ---- the parts of one directive
 

@@ -9,8 +9,8 @@ use Rattle.c_macros.specs.declared.MacroSize.{MacroSize}
 use Rattle.c_macros.specs.declared.MacroSize.TheVariants.{Exact8, Exact16, Exact32, Exact64, Least8, Least16, Least32}
 use Rattle.c_macros.specs.declared.MacroSize.TheVariants.{Least64, Fast8, Fast16, Fast32, Fast64, Pointer}
 use Rattle.c_macros.specs.declared.MacroKind.TheVariants.{Signed, Unsigned}
-use Rattle.c_macros.specs.declared.Kind.{Kind}
-use Rattle.c_macros.specs.declared.Kind.TheVariants.{Plain, Macro}
+pub use Rattle.c_macros.specs.declared.Kind.{Kind}
+pub use Rattle.c_macros.specs.declared.Kind.TheVariants.{Plain, Macro}
 
 -- ---- names: what follows `PRI` and the conversion (C standard, 7.8.1, 2)
 

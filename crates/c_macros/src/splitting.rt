@@ -1,14 +1,13 @@
 //! The parts of a text that differ from system to system.
-ghost use Rattle.std.specs.Prelude.{◌≡◌, ◌↔◌, ◌+◌, ◌++◌, ◌∷◌, [], ◌≤◌, ◌^◌, ◌<◌, ℕ, IsTrue, List, OnOk, IfOk, IfErr};
-ghost use Rattle.std.specs.Prelude.{length, MatchOption};
-ghost use Rattle.c_macros.specs.MacroFormat.{IsInvalid, Lists};
-ghost use Rattle.c_macros.specs.MacroSplits.{AreWithin, flag_splits, HasParts, is_macro, IsOf, IsSplitAt};
+ghost use Rattle.std.specs.Prelude.{◌≡◌, ◌↔◌, ◌+◌, ◌++◌, ◌∷◌, [], ◌≤◌, ◌^◌, ◌<◌, IsTrue, OnOk, IfOk};
+ghost use Rattle.std.specs.Prelude.{length};
 ghost use Rattle.std.specs.List.{list_all};
-ghost use Rattle.c_macros.specs.MacroScanning.{Fits, HasNoParts, named_parts, NamedFits, parts_of};
+ghost use Rattle.c_macros.specs.MacroSplits.{AreWithin, flag_splits, is_macro, IsOf, IsSplitAt};
+ghost use Rattle.c_macros.specs.MacroScanning.{Fits, named_parts, NamedFits, parts_of};
 
-use crate::directives::{Directive, Named, read_directive};
-use crate::{Kind, MacroFault, Side, Split, signature};
-use format_arguments::next_directive;
+use crate::directives::{Directive, Named};
+use crate::format::read_format;
+use crate::{MacroFault, Side, Split};
 use std::alloc::{AllocError, Global};
 
 /// Adds the flag at this offset, if it is `I`.
@@ -51,7 +50,7 @@ fn add_named(parts: &mut Vec<Split>, total: usize, named: Option<Named>) -> Resu
 }
 
 /// Adds the parts of a directive of a text of `total` bytes.
-fn add_parts(
+pub(crate) fn add_parts(
     parts: &mut Vec<Split>,
     total: usize,
     directive: Directive<'_>,
@@ -65,34 +64,6 @@ fn add_parts(
         total - directive.head.flags_left,
     )?;
     add_named(parts, total, directive.named)
-}
-
-/// The parts of all directives; `Invalid` if the text isn't made of directives and plain text.
-fn find_parts(alloc: Global, text: &[u8]) -> Result<Vec<Split>, MacroFault>
-    ensures ok { IfOk result (λ parts. HasParts text.now parts.items) }
-    ensures err { IfErr result (λ fault. HasNoParts text.now fault) }
-{
-    let mut parts = Vec::new(alloc);
-    let mut rest = text;
-    'directives: while let Some(behind) = next_directive(rest, b'%') {
-        let Some((directive, after)) = read_directive(behind) else {
-            return Err(MacroFault::Invalid)
-        };
-        add_parts(&mut parts, text.len(), directive)?;
-        rest = after;
-    }
-    Ok(parts)
-}
-
-/// The arguments of a text, if it is a format. The only error is a failed allocation.
-fn kinds_of(alloc: Global, text: &str) -> Result<Option<Vec<Kind>>, AllocError>
-    ensures { IfOk result (λ found. MatchOption found (IsInvalid text.now) (λ kinds. Lists text.now kinds.items)) }
-{
-    match signature(alloc, text) {
-        Ok(kinds) => Ok(Some(kinds)),
-        Err(MacroFault::Invalid) => Ok(None),
-        Err(MacroFault::Memory) => Err(AllocError),
-    }
 }
 
 fn are_macros(parts: &[Split]) -> bool
@@ -115,11 +86,8 @@ fn valid_parts(alloc: Global, text: &str, side: Side) -> Result<Vec<Split>, Allo
     ensures { IfOk result (λ parts. IsSplitAt side text.now parts.items) }
 {
     let none = Vec::new(alloc);
-    let Some(_kinds) = kinds_of(alloc, text)? else {
-        return Ok(none)
-    };
-    match find_parts(alloc, text.as_bytes()) {
-        Ok(parts) => if is_of(side, &parts) {
+    match read_format(alloc, text) {
+        Ok((_kinds, parts)) => if is_of(side, &parts) {
             Ok(parts)
         } else {
             Ok(none)

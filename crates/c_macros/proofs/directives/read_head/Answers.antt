@@ -1,13 +1,18 @@
-use Rattle.std.proofs.Common.{refl, length}
-use Rattle.c_macros.proofs.ReaderLemmas.{head_read}
+use Rattle.std.proofs.Common.{refl}
 use Rattle.c_macros.proofs.directives.read_head.Goals as goal
 
 pub returns : goal.returns
-returns c = head_read (record {
-  number = c.read_number-number.result.0;
-  flags = c.split_flags.result.0;
-  flags_left = length c.read_number-number.result.1.now;
-  width = c.read_width-width.result.0;
-  precision = c.read_precision-precision.result.0;
-}) c.args.text.now _ _ _ _ c.read_number-number.ensures c.split_flags.ensures
-    c.read_width-width.ensures c.read_precision-precision.ensures refl
+returns c = (
+  record {
+    behind_percent = c.args.text.now;
+    behind_number = c.read_number-number.result.1.now;
+    behind_flags = c.split_flags.result.1.now;
+    behind_width = c.read_width-width.result.1.now;
+    begins = refl;
+    number_at = c.read_number-number.ensures;
+    flags_at = c.split_flags.ensures;
+    width_at = c.read_width-width.ensures;
+    precision_at = c.read_precision-precision.ensures;
+  },
+  refl,
+)

@@ -1,8 +1,7 @@
 use Rattle.std.proofs.Common.{◌≡◌, ℕ, List, ◌++◌, sym, subst}
 use Rattle.std.specs.Prelude.{codes, MatchOption}
 use Rattle.c_signature.proofs.DirectiveLemmas.{macro_prefix}
-use Rattle.c_macros.specs.declared.Kind.{Kind}
-use Rattle.c_macros.specs.Macros.{MacroAt}
+use Rattle.c_macros.specs.Macros.{MacroAt, Kind}
 use Rattle.c_macros.proofs.macros.read_macro.Goals as goal
 
 pub returns : goal.returns

@@ -2,8 +2,7 @@ use Rattle.std.proofs.Common.{rules}
 use Rattle.std.proofs.lemmas.Result.{IfOk-weaker, IfErr-weaker}
 use Rattle.std.proofs.lemmas.List.Sorted.{IsNonDecreasingBy-from_sort_by_key}
 use Rattle.std.specs.Option.{unwrap_or}
-use Rattle.c_macros.specs.declared.requests.Request.{Request}
-use Rattle.c_macros.specs.MacroScanning.{IsRising}
+use Rattle.c_macros.specs.MacroScanning.{IsRising, Request}
 use Rattle.c_macros.proofs.ListLemmas.{sorted_lists, sorted_has_none, invalid_weaker}
 use Rattle.c_macros.proofs.requests.list_numbered.Goals as goal
 

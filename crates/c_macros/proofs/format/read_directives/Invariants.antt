@@ -1,9 +1,9 @@
 use Rattle.std.proofs.Common.{length}
-use Rattle.c_macros.proofs.ReadingLemmas.{HasFound}
-use Rattle.c_macros.proofs.splitting.find_parts.Given as goal
+use Rattle.c_macros.proofs.ReadingLemmas.{Reading}
+use Rattle.c_macros.proofs.format.read_directives.Given as goal
 
 abbrev pub invariant-directives : goal.invariant-directives
-invariant-directives l = HasFound l.text l.rest l.parts.items
+invariant-directives l = Reading l.text l.rest l.asked.items l.parts.items
 
 abbrev pub decreases-directives : goal.decreases-directives
 decreases-directives l = length l.rest
