@@ -5,16 +5,12 @@ use Rattle.std.specs.List.{flat_map, sum_by}
 use Rattle.std.proofs.lemmas.List.{length-map}
 use Rattle.std.proofs.lemmas.List.Concat.{flat_map-cons}
 use Rattle.std.proofs.lemmas.List.Sums.{sum_by-cons}
-use Rattle.mo_image.specs.Entry.{Entry, original, translation}
 use Rattle.mo_image.specs.MoFile.{word, pool}
 use Rattle.mo_image.proofs.MoLengths.{length-word, length-pairs}
-use Rattle.mo_dependent.specs.Splits.{texts, text_of, text_pool, end_of}
+use Rattle.mo_dependent.specs.Splits.{texts, text_of, text_pool, end_of, Split, SplitText, Dependent}
 use Rattle.mo_dependent.specs.Segments.{segments, segment_rows}
-use Rattle.mo_dependent.specs.Layout.{rows_from, descriptor_len, pointers, descriptors, strings, sizes_of}
-use Rattle.mo_dependent.specs.Layout.{file_with, strings_at, names_at, texts_at, descriptors_at}
-use Rattle.c_macros.specs.declared.Split.{Split}
-use Rattle.mo_dependent.specs.declared.split.SplitText.{SplitText}
-use Rattle.mo_dependent.specs.declared.split.Dependent.{Dependent}
+use Rattle.mo_dependent.specs.Layout.{rows_from, descriptor_len, pointers, descriptors, strings, sizes_of, file_with}
+use Rattle.mo_dependent.specs.Layout.{strings_at, names_at, texts_at, descriptors_at, Entry, original, translation}
 use Rattle.mo_dependent.proofs.Steps.{length-texts}
 
 length-words : (ns : List ℕ) → length (flat_map word ns) ≡ 4 * length ns

@@ -5,13 +5,12 @@ use Rattle.std.proofs.lemmas.List.{drop_at, length-map, length-drop, length-take
 use Rattle.std.proofs.lemmas.List.Concat.{flat_map-append}
 use Rattle.std.proofs.lemmas.Option.{slice_get_read}
 use Rattle.byteorder.specs.Endian.{little_number}
-use Rattle.mo_image.specs.Entry.{Entry, original, translation}
 use Rattle.mo_image.specs.Map.{IsLawful}
 use Rattle.mo_image.specs.MoFile.{header, pairs, with_nul, pool, spelling}
 use Rattle.mo_image.specs.Tables.{word_at}
 use Rattle.mo_image.proofs.FileStrings.{Names, AllNamed, named_at, spelling_describes}
 use Rattle.mo_image.proofs.MoLengths.{length-header, length-pairs}
-use Rattle.mo_dependent.specs.Layout.{strings}
+use Rattle.mo_dependent.specs.Layout.{strings, Entry, original, translation}
 use Rattle.mo_dependent.proofs.Lengths.{length-strings}
 
 pub pool_behind : (m : List Entry) → drop (28 + 16 * length m) (spelling m) ≡ pool (strings m)

@@ -12,14 +12,11 @@ use Rattle.std.proofs.lemmas.Option.{get_or_from_slice_get, slice_get_within}
 use Rattle.mo_image.specs.MoFile.{word, pairs, with_nul, pool}
 use Rattle.mo_image.proofs.Lists.{at_index, slice_get-map}
 use Rattle.mo_image.proofs.MoLengths.{length-with_nul}
-use Rattle.mo_dependent.specs.Splits.{end_of, name_at, pieces_from, LieFrom, HasSplits, IsSplit}
-use Rattle.mo_dependent.specs.Splits.{texts, text_of, text_pool}
+use Rattle.mo_dependent.specs.Splits.{end_of, name_at, pieces_from, LieFrom, HasSplits, IsSplit, texts, text_of}
+use Rattle.mo_dependent.specs.Splits.{text_pool, Split, SplitText, Dependent}
 use Rattle.mo_dependent.specs.Segments.{index_of, add_name, numbered, names_of, uses, segment_rows}
 use Rattle.mo_dependent.specs.Hashing.{hash_from, hash_step}
 use Rattle.mo_dependent.specs.Layout.{descriptor_len, pointers, descriptors, rows, rows_from}
-use Rattle.c_macros.specs.declared.Split.{Split}
-use Rattle.mo_dependent.specs.declared.split.SplitText.{SplitText}
-use Rattle.mo_dependent.specs.declared.split.Dependent.{Dependent}
 
 pub drop_found : {X : Type 0} (xs : List X) (i : ℕ) (x : X) → slice_get xs i ≡ Some x → drop i xs ≡ x ∷ drop (i + 1) xs
 drop_found xs i x found = drop_more xs i x (slice_get_within xs i x found)
@@ -96,37 +93,49 @@ pub all_lie : (text : List ℕ) (from : ℕ) (ss : List Split) → LieFrom text 
 all_lie text from [] lies = tt
 all_lie text from (s ∷ ss) lies = ((lies.1, lies_to text (end_of s) ss lies.2), all_lie text (end_of s) ss lies.2)
 
-module _ (text : List ℕ) (from : ℕ) (ss : List Split) (i : ℕ) (s : Split) (found : slice_get ss i ≡ Some s)
-    (lies : LieFrom text from (drop i ss)) where
-  left_splits : drop i ss ≡ s ∷ drop (i + 1) ss
-  left_splits = drop_found ss i s found
+-- what is known where a text is cut at a split
+pub record AtSplit (text : SplitText) (from i : ℕ) (s : Split) : Type 0 where
+  pub begins : from ≤ s.start
+  pub some : 0 < s.len
+  pub within : end_of s ≤ length text.bytes.items
+  pub later : LieFrom text.bytes.items (end_of s) (drop (i + 1) text.splits.items)
+  pub lens : length (pieces_from text.bytes.items from (drop i text.splits.items)) ≡ (s.start - from)
+      + length (pieces_from text.bytes.items (end_of s) (drop (i + 1) text.splits.items))
 
-  pub lies_next : (from ≤ s.start) × (0 < s.len) × LieFrom text (end_of s) (drop (i + 1) ss)
-  lies_next = subst (LieFrom text from) left_splits lies
+module _ (text : SplitText) (from i : ℕ) (s : Split) (found : slice_get text.splits.items i ≡ Some s) where
+  abbrev rest : List Split
+  rest = drop (i + 1) text.splits.items
 
-  pub lies_within : end_of s ≤ length text
-  lies_within = lies_to text (end_of s) (drop (i + 1) ss) lies_next.2
+  left_splits : drop i text.splits.items ≡ s ∷ rest
+  left_splits = drop_found text.splits.items i s found
 
-  pub lies_here : (from ≤ s.start) × (0 < s.len) × (end_of s ≤ length text)
-  lies_here = (lies_next.0, lies_next.1, lies_within)
+  pub pieces_next : pieces_from text.bytes.items from (drop i text.splits.items)
+      ≡ take (s.start - from) (drop from text.bytes.items) ++ pieces_from text.bytes.items (end_of s) rest
+  pieces_next = ap (pieces_from text.bytes.items from) left_splits
 
-  pub pieces_next : pieces_from text from (drop i ss)
-      ≡ take (s.start - from) (drop from text) ++ pieces_from text (end_of s) (drop (i + 1) ss)
-  pieces_next = ap (pieces_from text from) left_splits
+  pub rows_next : (names : List (List ℕ)) → rows_from names text.bytes.items from (drop i text.splits.items)
+      ≡ (word (s.start - from) ++ word (index_of names (name_at text.bytes.items s)))
+      ++ rows_from names text.bytes.items (end_of s) rest
+  rows_next names = ap (rows_from names text.bytes.items from) left_splits
 
-  pub length-pieces_next : length (pieces_from text from (drop i ss))
-      ≡ (s.start - from) + length (pieces_from text (end_of s) (drop (i + 1) ss))
-  length-pieces_next =
-      let room : s.start - from ≤ length (drop from text) = omega (arith, length-drop from text, lies_within) in
-      let len = length-take-le (s.start - from) (drop from text) room in
-      let both = ap length pieces_next
-      ∙ length-append (take (s.start - from) (drop from text)) (pieces_from text (end_of s) (drop (i + 1) ss)) in
-      omega (arith, both, len)
-
-  pub rows_next : (names : List (List ℕ)) → rows_from names text from (drop i ss)
-      ≡ (word (s.start - from) ++ word (index_of names (name_at text s)))
-      ++ rows_from names text (end_of s) (drop (i + 1) ss)
-  rows_next names = ap (rows_from names text from) left_splits
+  pub at_split : LieFrom text.bytes.items from (drop i text.splits.items) → AtSplit text from i s
+  at_split lies =
+      let bytes = text.bytes.items in
+      let here = subst (LieFrom bytes from) left_splits lies in
+      let within = lies_to bytes (end_of s) rest here.2 in
+      let room : s.start - from ≤ length (drop from bytes) = omega (arith, length-drop from bytes) in
+      record {
+        begins = here.0;
+        some = here.1;
+        within = within;
+        later = here.2;
+        lens = omega (
+          arith,
+          ap length pieces_next,
+          length-append (take (s.start - from) (drop from bytes)) (pieces_from bytes (end_of s) rest),
+          length-take-le (s.start - from) (drop from bytes) room,
+        );
+      }
 
 -- ---- uses
 

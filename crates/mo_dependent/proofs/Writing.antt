@@ -6,15 +6,12 @@ use Rattle.std.proofs.lemmas.List.{length-map}
 use Rattle.std.specs.List.{AllByRecursion, flat_map, sum_by}
 use Rattle.mo_image.specs.Entry.{Entry, key}
 use Rattle.mo_image.specs.MoFile.{most_file, word, pairs, pool}
-use Rattle.mo_dependent.specs.Splits.{IsSplit, texts, text_pool}
+use Rattle.mo_dependent.specs.Splits.{IsSplit, texts, text_pool, Dependent}
 use Rattle.mo_dependent.specs.Segments.{index_of, segments, segment_rows}
 use Rattle.mo_dependent.specs.Hashing.{IsHashSize, IsHashTable}
 use Rattle.mo_dependent.specs.Layout.{header, descriptor_len, pointers, descriptors, strings, sizes_of, file_with}
-use Rattle.mo_dependent.specs.Layout.{has_flag, strings_at, names_at, texts_at, descriptors_at, IsDependentFile}
-use Rattle.mo_dependent.specs.declared.split.Dependent.{Dependent}
-use Rattle.mo_dependent.specs.FilePieces.{AreParts}
-use Rattle.mo_dependent.specs.declared.header.Sizes.{Sizes}
-use Rattle.mo_dependent.specs.declared.writer.Parts.{Parts}
+use Rattle.mo_dependent.specs.Layout.{has_flag, strings_at, names_at, texts_at, descriptors_at, IsDependentFile, Sizes}
+use Rattle.mo_dependent.specs.FilePieces.{AreParts, Parts}
 use Rattle.mo_dependent.proofs.Lengths.{length-file}
 use Rattle.mo_dependent.proofs.Primes.{one_size}
 
@@ -43,18 +40,15 @@ pub length-dependent : (m : List Entry) (messages : List Dependent) (bytes : Lis
     + length (text_pool (texts messages))
 length-dependent m messages bytes f = ap length f.spelt ∙ length-file m messages f.slots
 
--- the lengths of the parts together are at most the limit
-pub part_lengths : (p : Parts) → AreParts p
-    → 48 + 16 * length p.statics.now + 4 * length p.slots.now + 8 * length (segments p.dependents.now)
-    + 8 * length p.dependents.now + sum_by descriptor_len (texts p.dependents.now)
-    + length (pool (strings p.statics.now)) + length (pool (segments p.dependents.now))
-    + length (text_pool (texts p.dependents.now)) ≤ 268435456
-part_lengths p are = omega (arith, are.fits, length-file p.statics.now p.dependents.now p.slots.now)
-
--- the sizes are those of the parts
-pub part_sizes : (p : Parts) → AreParts p → descriptors_at p.sizes ≡ 48 + 16 * length p.statics.now
-    + 4 * length p.slots.now + 8 * length (segments p.dependents.now) + 8 * length p.dependents.now
-part_sizes p are = ap descriptors_at are.sizes
+-- where the static strings begin, by the sizes, and the lengths of the parts together, which are at most the limit
+pub part_lengths : (p : Parts) → AreParts p → (descriptors_at p.sizes ≡ 48 + 16 * length p.statics.now
+    + 4 * length p.slots.now + 8 * length (segments p.dependents.now) + 8 * length p.dependents.now)
+    × (descriptors_at p.sizes + p.descriptors_len + length (pool (strings p.statics.now)) + length p.name_pool.now
+    + length p.text_pool.now ≤ 268435456)
+part_lengths p are =
+    let sizes = ap descriptors_at are.sizes in
+    let whole = length-file p.statics.now p.dependents.now p.slots.now in
+    (sizes, omega (arith, are.fits, are.descriptors_len, ap length are.name_pool, ap length are.text_pool))
 
 pub part_flag : (p : Parts) (k : ℕ) → AreParts p → k ≡ index_of (map (λ n. n.now) p.names.now) (codes "I")
     → nat_lt k (length p.names.now) ≡ has_flag (segments p.dependents.now)

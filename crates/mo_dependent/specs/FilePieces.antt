@@ -1,11 +1,10 @@
 -- Private: the parts of a file, as they are gathered before it is written.
 use Rattle.std.specs.Prelude.{◌≡◌, ℕ, ◌≤◌, List, length, map}
 use Rattle.std.specs.List.{AllByRecursion, sum_by}
-use Rattle.mo_image.specs.MoFile.{most_file, pool}
 use Rattle.mo_dependent.specs.Splits.{IsSplit, texts, text_pool}
 use Rattle.mo_dependent.specs.Segments.{segments}
-use Rattle.mo_dependent.specs.Layout.{descriptor_len, sizes_of, file_with}
-use Rattle.mo_dependent.specs.declared.writer.Parts.{Parts}
+use Rattle.mo_dependent.specs.Layout.{descriptor_len, sizes_of, file_with, most_file, pool}
+pub use Rattle.mo_dependent.specs.declared.writer.Parts.{Parts}
 
 pub record AreParts (p : Parts) : Type 0 where
   pub splits : AllByRecursion IsSplit p.dependents.now

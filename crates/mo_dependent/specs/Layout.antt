@@ -6,15 +6,12 @@
 use Rattle.std.specs.Prelude.{◌≡◌, ℕ, ◌+◌, ◌*◌, ◌<◌, Bool, nat_lt, if◌then◌else◌, ⊤, List, [], ◌∷◌, ◌++◌, length}
 use Rattle.std.specs.Prelude.{map, codes, drop, ◌-◌}
 use Rattle.std.specs.List.{flat_map, sum_by}
-use Rattle.mo_image.specs.Entry.{Entry, key, original, translation}
-use Rattle.mo_image.specs.MoFile.{magic_number, most_file, word, pairs, pool}
-use Rattle.mo_dependent.specs.Splits.{end_of, name_at, texts, text_of, text_pool}
+pub use Rattle.mo_image.specs.Entry.{Entry, key, original, translation}
+pub use Rattle.mo_image.specs.MoFile.{magic_number, most_file, word, pairs, pool}
+use Rattle.mo_dependent.specs.Splits.{end_of, name_at, texts, text_of, text_pool, Split, SplitText, Dependent}
 use Rattle.mo_dependent.specs.Segments.{index_of, segments, segment_rows}
 use Rattle.mo_dependent.specs.Hashing.{IsHashSize, IsHashTable}
-use Rattle.c_macros.specs.declared.Split.{Split}
-use Rattle.mo_dependent.specs.declared.split.SplitText.{SplitText}
-use Rattle.mo_dependent.specs.declared.split.Dependent.{Dependent}
-use Rattle.mo_dependent.specs.declared.header.Sizes.{Sizes}
+pub use Rattle.mo_dependent.specs.declared.header.Sizes.{Sizes}
 use Rattle.mo_dependent.specs.declared.fault.WriteFault.{WriteFault}
 use Rattle.mo_dependent.specs.declared.fault.WriteFault.TheVariants.{TooLarge, Memory}
 

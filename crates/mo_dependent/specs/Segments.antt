@@ -2,10 +2,8 @@
 use Rattle.std.specs.Prelude.{ℕ, suc, ◌+◌, nat_lt, if◌then◌else◌, List, [], ◌∷◌, ◌++◌, length, map}
 use Rattle.std.specs.List.{flat_map}
 use Rattle.std.specs.Str.{bytes_eq}
-use Rattle.mo_image.specs.MoFile.{word}
-use Rattle.mo_dependent.specs.Splits.{name_at}
-use Rattle.mo_dependent.specs.declared.split.SplitText.{SplitText}
-use Rattle.mo_dependent.specs.declared.split.Dependent.{Dependent}
+pub use Rattle.mo_image.specs.MoFile.{word}
+use Rattle.mo_dependent.specs.Splits.{name_at, SplitText, Dependent}
 
 -- the number of a name: how many names are before it
 abbrev pub index_of : List (List ℕ) → List ℕ → ℕ

@@ -2,9 +2,9 @@
 use Rattle.std.specs.Prelude.{ℕ, ◌+◌, ◌-◌, ◌<◌, ◌≤◌, ◌==◌, if◌then◌else◌, List, [], ◌∷◌, ◌++◌, length, map, take, drop}
 use Rattle.std.specs.List.{flat_map}
 use Rattle.mo_image.specs.MoFile.{with_nul}
-use Rattle.c_macros.specs.declared.Split.{Split}
-use Rattle.mo_dependent.specs.declared.split.SplitText.{SplitText}
-use Rattle.mo_dependent.specs.declared.split.Dependent.{Dependent}
+pub use Rattle.c_macros.specs.declared.Split.{Split}
+pub use Rattle.mo_dependent.specs.declared.split.SplitText.{SplitText}
+pub use Rattle.mo_dependent.specs.declared.split.Dependent.{Dependent}
 
 abbrev pub end_of : Split → ℕ
 end_of s = s.start + s.len

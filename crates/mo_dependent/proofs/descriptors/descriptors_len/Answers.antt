@@ -4,32 +4,13 @@ use Rattle.mo_dependent.proofs.Steps.{lens_next}
 use Rattle.mo_dependent.proofs.descriptors.descriptors_len.Goals as goal
 
 pub returns-then-splits-gt-MAX_LEN : goal.returns-then-splits-gt-MAX_LEN
-returns-then-splits-gt-MAX_LEN c =
-    omega (
-      arith,
-      c.texts.invariant.so_far,
-      c.if-splits-gt-MAX_LEN.true,
-      c.split_count-splits.ensures,
-      lens_next (texts c.args.dependents.now) c.texts.i c.text_at.result.now c.text_at.ensures,
-    )
+returns-then-splits-gt-MAX_LEN c = omega (arith, lens_next (texts c.args.dependents.now) c.texts.i _ c.text_at.ensures)
 
 pub returns-then-len-gt-MAX_LEN : goal.returns-then-len-gt-MAX_LEN
-returns-then-len-gt-MAX_LEN c =
-    omega (
-      arith,
-      c.texts.invariant.so_far,
-      c.if-len-gt-MAX_LEN.true,
-      c.split_count-splits.ensures,
-      lens_next (texts c.args.dependents.now) c.texts.i c.text_at.result.now c.text_at.ensures,
-    )
+returns-then-len-gt-MAX_LEN c = omega (arith, lens_next (texts c.args.dependents.now) c.texts.i _ c.text_at.ensures)
 
 pub texts-preserved : goal.texts-preserved
 texts-preserved c = record {
-  so_far = omega (
-    arith,
-    c.texts.invariant.so_far,
-    c.split_count-splits.ensures,
-    lens_next (texts c.args.dependents.now) c.texts.i c.text_at.result.now c.text_at.ensures,
-  );
-  most = omega (arith, c.if-len-gt-MAX_LEN.false);
+  so_far = omega (arith, lens_next (texts c.args.dependents.now) c.texts.i _ c.text_at.ensures);
+  most = omega arith;
 }

@@ -1,8 +1,7 @@
 use Rattle.std.proofs.Common.{◌≡◌, ◌+◌, ◌≤◌, drop}
 use Rattle.std.specs.List.{sum_by}
-use Rattle.mo_image.specs.MoFile.{most_file}
 use Rattle.mo_dependent.specs.Splits.{texts}
-use Rattle.mo_dependent.specs.Layout.{descriptor_len}
+use Rattle.mo_dependent.specs.Layout.{descriptor_len, most_file}
 use Rattle.mo_dependent.proofs.descriptors.descriptors_len.Given as goal
 
 abbrev pub invariant-texts : goal.invariant-texts

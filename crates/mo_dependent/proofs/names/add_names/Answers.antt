@@ -9,11 +9,8 @@ name_at-requires-clause-some c = (lies_at c.args.text.now c.splits.i c.split_at.
 
 pub name_at-requires-clause-within : goal.name_at-requires-clause-within
 name_at-requires-clause-within c =
-    omega (
-      arith,
-      ap length c.as_slice.ensures.value,
-      (lies_at c.args.text.now c.splits.i c.split_at.result c.requires c.split_at.ensures).1,
-    )
+    let h = lies_at c.args.text.now c.splits.i c.split_at.result c.requires c.split_at.ensures in
+    omega (arith, ap length c.as_slice.ensures.value)
 
 pub splits-preserved : goal.splits-preserved
 splits-preserved c =

@@ -1,6 +1,5 @@
 use Rattle.std.proofs.Common.{◌≡◌, ◌+◌, ◌++◌, length, drop}
-use Rattle.mo_image.specs.MoFile.{pool, pairs}
-use Rattle.mo_dependent.specs.Layout.{strings}
+use Rattle.mo_dependent.specs.Layout.{strings, pool, pairs}
 use Rattle.mo_dependent.proofs.statics.push_strings.Given as goal
 
 abbrev pub invariant-strings : goal.invariant-strings

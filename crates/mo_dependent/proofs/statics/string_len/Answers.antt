@@ -6,20 +6,16 @@ use Rattle.mo_dependent.proofs.StaticStrings.{row_len, rows_lie}
 use Rattle.mo_dependent.proofs.statics.string_len.Goals as goal
 
 pub overflow_mul-i : goal.overflow_mul-i
-overflow_mul-i c =
-    omega (arith, rows_lie c.args.statics.now c.file.ensures.lawful, c.file.ensures.lawful.fits, c.requires)
+overflow_mul-i c = let h = rows_lie _ c.file.ensures.lawful in omega arith
 
 pub overflow_add-i : goal.overflow_add-i
-overflow_add-i c =
-    omega (arith, rows_lie c.args.statics.now c.file.ensures.lawful, c.file.ensures.lawful.fits, c.requires)
+overflow_add-i c = let h = rows_lie _ c.file.ensures.lawful in omega arith
 
 pub slice_bounds-read_u32-count : goal.slice_bounds-read_u32-count
-slice_bounds-read_u32-count c =
-    omega (arith, rows_lie c.args.statics.now c.file.ensures.lawful, ap length c.file.ensures.file, c.requires)
+slice_bounds-read_u32-count c = let h = rows_lie _ c.file.ensures.lawful in omega (arith, ap length c.file.ensures.file)
 
 pub slice_bounds-read_u32-start : goal.slice_bounds-read_u32-start
-slice_bounds-read_u32-start c =
-    omega (arith, rows_lie c.args.statics.now c.file.ensures.lawful, ap length c.file.ensures.file, c.requires)
+slice_bounds-read_u32-start c = let h = rows_lie _ c.file.ensures.lawful in omega (arith, ap length c.file.ensures.file)
 
 pub returns : goal.returns
 returns c = c.read_u32.ensures
@@ -30,11 +26,6 @@ returns c = c.read_u32.ensures
 pub read_u32-requires : goal.read_u32-requires
 read_u32-requires c =
     let at = 28 + 8 * c.args.i in
-    omega (
-      arith,
-      rows_lie c.args.statics.now c.file.ensures.lawful,
-      ap length c.file.ensures.file,
-      ap length (take_rest c.file.result.now at),
-      length-drop at c.file.result.now,
-      c.requires,
-    )
+    let h = rows_lie _ c.file.ensures.lawful in
+    let bytes = c.file.result.now in
+    omega (arith, ap length c.file.ensures.file, ap length (take_rest bytes at), length-drop at bytes)

@@ -4,30 +4,16 @@ use Rattle.mo_dependent.proofs.StaticStrings.{pool_behind, rows_lie}
 use Rattle.mo_dependent.proofs.statics.string_pool.Goals as goal
 
 pub overflow_mul-result-2 : goal.overflow_mul-result-2
-overflow_mul-result-2 c =
-    omega (arith, rows_lie c.args.statics.now c.file.ensures.lawful, c.file.ensures.lawful.fits, c.len.ensures.len)
+overflow_mul-result-2 c = let h = rows_lie _ c.file.ensures.lawful in omega arith
 
 pub overflow_add-result : goal.overflow_add-result
-overflow_add-result c =
-    omega (arith, rows_lie c.args.statics.now c.file.ensures.lawful, c.file.ensures.lawful.fits, c.len.ensures.len)
+overflow_add-result c = let h = rows_lie _ c.file.ensures.lawful in omega arith
 
 pub slice_bounds-result-count : goal.slice_bounds-result-count
-slice_bounds-result-count c =
-    omega (
-      arith,
-      rows_lie c.args.statics.now c.file.ensures.lawful,
-      ap length c.file.ensures.file,
-      c.len.ensures.len,
-    )
+slice_bounds-result-count c = let h = rows_lie _ c.file.ensures.lawful in omega (arith, ap length c.file.ensures.file)
 
 pub slice_bounds-result-start : goal.slice_bounds-result-start
-slice_bounds-result-start c =
-    omega (
-      arith,
-      rows_lie c.args.statics.now c.file.ensures.lawful,
-      ap length c.file.ensures.file,
-      c.len.ensures.len,
-    )
+slice_bounds-result-start c = let h = rows_lie _ c.file.ensures.lawful in omega (arith, ap length c.file.ensures.file)
 
 pub returns : goal.returns
 returns c =

@@ -11,32 +11,17 @@ use Rattle.mo_dependent.proofs.writer.write_dependent.Goals as goal
 
 pub returns-then-dependents-clause-err : goal.returns-then-dependents-clause-err
 returns-then-dependents-clause-err c = λ bytes f.
-    omega (arith, length-dependent c.args.statics.now c.args.dependents.now bytes f, c.if-dependents.true)
+    omega (arith, length-dependent c.args.statics.now c.args.dependents.now bytes f)
 
 pub returns-in_default-clause-err : goal.returns-in_default-clause-err
 returns-in_default-clause-err c = λ bytes f.
     omega (arith, length-dependent c.args.statics.now c.args.dependents.now bytes f, c.in_default.ensures)
 
 pub overflow_add-count : goal.overflow_add-count
-overflow_add-count c =
-    omega (
-      arith,
-      rows_lie c.args.statics.now c.len-count.ensures.lawful,
-      c.len-count.ensures.lawful.fits,
-      c.len-count.ensures.len,
-      c.if-dependents.false,
-    )
+overflow_add-count c = let h = rows_lie _ c.len-count.ensures.lawful in omega arith
 
 pub hash_size-requires : goal.hash_size-requires
-hash_size-requires c =
-    let m = c.args.statics.now in
-    omega (
-      arith,
-      rows_lie m c.len-count.ensures.lawful,
-      c.len-count.ensures.lawful.fits,
-      c.len-count.ensures.len,
-      c.if-dependents.false,
-    )
+hash_size-requires c = let h = rows_lie _ c.len-count.ensures.lawful in omega arith
 
 pub returns-in_default-hash_size-clause-err : goal.returns-in_default-hash_size-clause-err
 returns-in_default-hash_size-clause-err c = λ bytes f.
@@ -50,32 +35,21 @@ returns-in_default-hash_size-clause-err c = λ bytes f.
     )
 
 pub text_pool-requires-clause-small : goal.text_pool-requires-clause-small
-text_pool-requires-clause-small c = omega (arith, c.if-dependents.false)
+text_pool-requires-clause-small c = omega arith
 
 pub file_len-requires-clause-statics : goal.file_len-requires-clause-statics
-file_len-requires-clause-statics c =
-    omega (
-      arith,
-      rows_lie c.args.statics.now c.len-count.ensures.lawful,
-      c.len-count.ensures.lawful.fits,
-      c.len-count.ensures.len,
-    )
+file_len-requires-clause-statics c = let h = rows_lie _ c.len-count.ensures.lawful in omega arith
 
 pub file_len-requires-clause-slots : goal.file_len-requires-clause-slots
 file_len-requires-clause-slots c = c.in-Some-hash_size.ensures.1
 
 pub file_len-requires-clause-dependents : goal.file_len-requires-clause-dependents
-file_len-requires-clause-dependents c = omega (arith, c.if-dependents.false)
+file_len-requires-clause-dependents c = omega arith
 
 pub file_len-requires-clause-parts : goal.file_len-requires-clause-parts
 file_len-requires-clause-parts c =
-    omega (
-      arith,
-      c.in-Some.ensures.1,
-      ap length c.string_pool.ensures,
-      c.len-count.ensures.lawful.fits,
-      strings_lie c.args.statics.now,
-    )
+    let h = strings_lie c.args.statics.now in
+    omega (arith, c.in-Some.ensures.1, ap length c.string_pool.ensures)
 
 pub returns-in_default-file_len-clause-err : goal.returns-in_default-file_len-clause-err
 returns-in_default-file_len-clause-err c = λ bytes f.
