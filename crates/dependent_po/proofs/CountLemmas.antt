@@ -4,12 +4,9 @@ use Rattle.std.specs.Prelude.{◌&&◌, if◌then◌else◌}
 use Rattle.std.specs.List.{count_by}
 use Rattle.std.proofs.lemmas.List.Sums.{sum_by-cons}
 use Rattle.po_text.specs.Entries as po
-use Rattle.po_checks.specs.Kept.{is_header, is_untranslated}
 use Rattle.catalogue.specs.Meaning.{is_fuzzy, is_translated, counted}
 use Rattle.catalogue.specs.Meaning as catalogue
-use Rattle.catalogue.specs.declared.compiler.Stats.{Stats}
-use Rattle.dependent_po.specs.Counts.{standing_of, same_standing, stats_by}
-use Rattle.dependent_po.specs.declared.counts.Standing.{Standing}
+use Rattle.dependent_po.specs.Counts.{standing_of, same_standing, stats_by, is_header, is_untranslated, Stats, Standing}
 use Rattle.dependent_po.specs.declared.counts.Standing.TheVariants.{Header, Untranslated, Fuzzy, Translated}
 
 abbrev one_if : {X : Type 0} → (X → Bool) → X → ℕ

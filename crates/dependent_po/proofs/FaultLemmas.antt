@@ -8,17 +8,12 @@ use Rattle.po_text.specs.Entries as po
 use Rattle.po_text.specs.Outcome as outcome
 use Rattle.po_text.specs.declared.PoKind.TheVariants as kinds
 use Rattle.po_text.proofs.Outcomes.{gives_one}
-use Rattle.po_header.specs.Rule.{Rule}
-use Rattle.po_checks.specs.Checks.{FirstAt}
 use Rattle.po_checks.specs.Fails.{IsDuplicateAt, IsForeignAt, IsFirst, rank}
 use Rattle.po_checks.specs.Fails as plain
 use Rattle.po_checks.specs.Found.{FirstLine, FirstFault, FailsFrom, IsFault}
 use Rattle.po_checks.specs.Kept.{kept, kept_header, header_line_of}
 use Rattle.po_checks.specs.Refusal.{out_of_memory}
-use Rattle.po_checks.specs.declared.options.Options.{Options}
 use Rattle.po_checks.specs.declared.findings.Findings.{Findings}
-use Rattle.po_checks.specs.declared.fault.LoadFault.{LoadFault}
-use Rattle.po_checks.specs.declared.fault.LoadKind.{LoadKind}
 use Rattle.po_checks.specs.declared.fault.LoadKind.TheVariants.{TooLarge, NotUtf8, BadEscape, OpenString, BadWord}
 use Rattle.po_checks.specs.declared.fault.LoadKind.TheVariants.{BadText, BadOrder, BadIndex, Duplicate, Charset}
 use Rattle.po_checks.specs.declared.fault.LoadKind.TheVariants.{SystemDependent, NoRule, BadRule, FormCount}
@@ -27,12 +22,11 @@ use Rattle.po_checks.proofs.FirstLines.{first_not_none}
 use Rattle.catalogue.specs.Meaning as catalogue
 use Rattle.catalogue.specs.declared.compiler.Compiled.{Compiled}
 use Rattle.dependent_po.specs.Formats.{HasOtherArguments}
-use Rattle.dependent_po.specs.EntryGathering.{FailsLate, HasGathered, IsLateFault, IsSoundText}
-use Rattle.dependent_po.specs.Headers.{header_texts, stored_texts, IsHeaderOf}
-use Rattle.dependent_po.specs.Late.{is_late, is_for_newlines, with_mismatch}
-use Rattle.dependent_po.specs.MacroMeaning.{Fails, Refuses}
+use Rattle.dependent_po.specs.EntryGathering.{FailsLate, HasGathered, IsLateFault, IsSoundText, Rule, Options, LoadKind}
+use Rattle.dependent_po.specs.Headers.{header_texts, stored_texts, IsHeaderOf, Header}
+use Rattle.dependent_po.specs.Late.{is_late, is_for_newlines, with_mismatch, LoadFault}
+use Rattle.dependent_po.specs.MacroMeaning.{Fails, Refuses, FirstAt}
 use Rattle.dependent_po.specs.declared.gathered.Gathered.{Gathered}
-use Rattle.dependent_po.specs.declared.header.Header.{Header}
 use Rattle.dependent_po.proofs.LateLemmas.{bares, fails_back, fails_to, found_bare, line_bare, rule_bare}
 
 -- ---- formats, between the other checks
@@ -40,23 +34,7 @@ use Rattle.dependent_po.proofs.LateLemmas.{bares, fails_back, fails_to, found_ba
 late_above : (o : Options) (es : List po.Entry) (kind : LoadKind) (line : ℕ) → FailsLate o es kind line
     → 16 < rank kind → is_for_newlines kind ≡ true
 late_above o es NewlineMismatch line f lt = refl
-late_above o es Memory line f lt = absurd f.1
-late_above o es TooLarge line f lt = absurd f.1
-late_above o es NotUtf8 line f lt = absurd f.1
-late_above o es BadEscape line f lt = absurd f.1
-late_above o es OpenString line f lt = absurd f.1
-late_above o es BadWord line f lt = absurd f.1
-late_above o es BadText line f lt = absurd f.1
-late_above o es BadOrder line f lt = absurd f.1
-late_above o es BadIndex line f lt = absurd f.1
-late_above o es Duplicate line f lt = absurd (omega (arith, lt))
-late_above o es Charset line f lt = absurd (omega (arith, lt))
-late_above o es SystemDependent line f lt = absurd (omega (arith, lt))
-late_above o es NoRule line f lt = absurd (omega (arith, lt))
-late_above o es BadRule line f lt = absurd (omega (arith, lt))
-late_above o es FormCount line f lt = absurd (omega (arith, lt))
-late_above o es (PluralRange n) line f lt = absurd (omega (arith, lt))
-late_above o es FormatMismatch line f lt = absurd (omega (arith, lt))
+late_above o es _ line f lt = absurd (first_of (omega (arith, lt), assumption f.1))
 
 newlines_rank : (kind : LoadKind) → is_for_newlines kind ≡ true → rank kind ≡ 17
 newlines_rank NewlineMismatch is = refl
@@ -175,14 +153,7 @@ early : (o : Options) (es : List po.Entry) (kind : LoadKind) (line : ℕ) → Fa
     → IsDuplicateAt es line ⊎ IsForeignAt o es line ⊎ FailsLate o es kind line
 early o es Duplicate line f = inl f
 early o es Charset line f = inr (inl f)
-early o es SystemDependent line f = absurd f
-early o es NoRule line f = inr (inr (omega arith, f))
-early o es BadRule line f = inr (inr (omega arith, f))
-early o es FormCount line f = inr (inr (omega arith, f))
-early o es (PluralRange n) line f = inr (inr (omega arith, f))
-early o es FormatMismatch line f = inr (inr (omega arith, f))
-early o es NewlineMismatch line f = inr (inr (omega arith, f))
-early o es _ line f = absurd f
+early o es _ line f = inr (inr (grind arith, f))
 
 -- the text is sound, by the entries that it gives
 pub sound_entries : (text : List ℕ) (o : Options) (es : List po.Entry) → IsSoundText text o → outcome.Gives text es
@@ -242,31 +213,27 @@ sound_by text o es kind line gives first le = record {
 
 pub sound_refuses : (text : List ℕ) (o : Options) (kind : LoadKind) (line : ℕ) → is_late kind ≡ true
     → catalogue.Refuses text o kind line → IsSoundText text o
-sound_refuses text o SystemDependent line is (es, gives, first) = sound_by text o es SystemDependent line gives first
-    (omega arith)
-sound_refuses text o NoRule line is (es, gives, first) = sound_by text o es NoRule line gives first (omega arith)
-sound_refuses text o BadRule line is (es, gives, first) = sound_by text o es BadRule line gives first (omega arith)
-sound_refuses text o FormCount line is (es, gives, first) = sound_by text o es FormCount line gives first (omega arith)
-sound_refuses text o (PluralRange n) line is (es, gives, first) = sound_by text o es (PluralRange n) line gives first
-    (omega arith)
-sound_refuses text o FormatMismatch line is (es, gives, first) = sound_by text o es FormatMismatch line gives first
-    (omega arith)
-sound_refuses text o NewlineMismatch line is (es, gives, first) = sound_by text o es NewlineMismatch line gives first
-    (omega arith)
+sound_refuses text o SystemDependent line is (es, gives, first) = sound_by text o es _ line gives first (omega arith)
+sound_refuses text o NoRule line is (es, gives, first) = sound_by text o es _ line gives first (omega arith)
+sound_refuses text o BadRule line is (es, gives, first) = sound_by text o es _ line gives first (omega arith)
+sound_refuses text o FormCount line is (es, gives, first) = sound_by text o es _ line gives first (omega arith)
+sound_refuses text o (PluralRange n) line is (es, gives, first) = sound_by text o es _ line gives first (omega arith)
+sound_refuses text o FormatMismatch line is (es, gives, first) = sound_by text o es _ line gives first (omega arith)
+sound_refuses text o NewlineMismatch line is (es, gives, first) = sound_by text o es _ line gives first (omega arith)
 sound_refuses text o _ line is r = absurd (false≢true is)
 
 early_plain : (o : Options) (es : List po.Entry) (kind : LoadKind) (line : ℕ) → rank kind < 11 → Fails o es kind line
     → plain.Fails o es kind line
-early_plain o es Duplicate line lt f = f
-early_plain o es Charset line lt f = f
 early_plain o es SystemDependent line lt f = absurd f
-early_plain o es NoRule line lt f = f
-early_plain o es BadRule line lt f = f
-early_plain o es FormCount line lt f = f
-early_plain o es (PluralRange n) line lt f = f
 early_plain o es FormatMismatch line lt f = absurd (omega (arith, lt))
-early_plain o es NewlineMismatch line lt f = f
-early_plain o es _ line lt f = absurd f
+early_plain o es _ line lt f = f
+
+first_early : (o : Options) (es : List po.Entry) (kind : LoadKind) (line : ℕ) → rank kind < 11
+    → Fails o es kind line → IsFirst (plain.Fails o es) kind line → IsFirst (Fails o es) kind line
+first_early o es kind line early holds first = record {
+  holds = holds;
+  first = λ other at lt f. first.first other at lt (early_plain o es other at (omega (arith, early, lt)) f);
+}
 
 pub refuses_early : (text : List ℕ) (o : Options) (kind : LoadKind) (line : ℕ) → is_late kind ≡ false
     → catalogue.Refuses text o kind line → Refuses text o kind line
@@ -278,22 +245,10 @@ refuses_early text o BadWord line is r = inl (kinds.BadWord, refl, r)
 refuses_early text o BadText line is r = inl (kinds.BadText, refl, r)
 refuses_early text o BadOrder line is r = inl (kinds.BadOrder, refl, r)
 refuses_early text o BadIndex line is r = inl (kinds.BadIndex, refl, r)
-refuses_early text o Duplicate line is (es, gives, first) = inr (
-  es,
-  gives,
-  record {
-    holds = first.holds;
-    first = λ other at lt f. first.first other at lt (early_plain o es other at (omega (arith, lt)) f);
-  },
-)
-refuses_early text o Charset line is (es, gives, first) = inr (
-  es,
-  gives,
-  record {
-    holds = first.holds;
-    first = λ other at lt f. first.first other at lt (early_plain o es other at (omega (arith, lt)) f);
-  },
-)
+refuses_early text o Duplicate line is (es, gives, first) =
+    inr (es, gives, first_early o es Duplicate line (omega arith) first.holds first)
+refuses_early text o Charset line is (es, gives, first) =
+    inr (es, gives, first_early o es Charset line (omega arith) first.holds first)
 refuses_early text o Memory line is (es, gives, first) = absurd first.holds
 refuses_early text o _ line is r = absurd (false≢true (sym is))
 

@@ -4,17 +4,11 @@ use Rattle.std.specs.Prelude.{◌⊎◌, ◌↔◌, IsTrue, slice_get}
 use Rattle.std.specs.List.{Any}
 use Rattle.std.proofs.lemmas.Bool.{false≢true}
 use Rattle.po_text.specs.Entries as po
-use Rattle.c_signature.specs.declared.Strictness.{Strictness}
-use Rattle.po_checks.specs.Checks.{format_original, strictness}
 use Rattle.po_checks.proofs.Checking.{any_take}
 use Rattle.po_checks.proofs.FirstLines.{any_none}
-use Rattle.c_macros.specs.MacroAgreement.{Agrees}
-use Rattle.c_macros.specs.MacroFormat.{Lists, IsInvalid}
-use Rattle.c_macros.specs.declared.Kind.{Kind}
 use Rattle.c_macros.proofs.FormatLemmas.{lists_one}
-use Rattle.dependent_po.specs.Comparing.{FormDiffers, IsReadAs}
-use Rattle.dependent_po.specs.Formats.{Differs, FormsDiffer, HasOtherArguments}
-use Rattle.dependent_po.specs.declared.formats.Format.{Format}
+use Rattle.dependent_po.specs.Comparing.{FormDiffers, IsReadAs, Strictness, Agrees, Lists, IsInvalid, Kind, Format}
+use Rattle.dependent_po.specs.Formats.{Differs, FormsDiffer, HasOtherArguments, format_original, strictness}
 use Rattle.dependent_po.specs.declared.formats.Format.TheVariants.{Arguments, Invalid}
 
 differ_is : (original : List Kind) (form : List ℕ) (f : Format) (rule : Strictness) → IsReadAs form f

@@ -14,16 +14,13 @@ use Rattle.po_text.specs.Progress.{HasRead, GoesOn}
 use Rattle.po_text.specs.declared.reader.EntryReader.{EntryReader}
 use Rattle.po_checks.specs.Found.{FirstLine, HasFound, LooksAt}
 use Rattle.po_checks.specs.Kept.{is_header, is_kept, kept, kept_header}
-use Rattle.po_checks.specs.declared.options.Options.{Options}
 use Rattle.po_checks.specs.declared.findings.Findings.{Findings}
 use Rattle.po_checks.proofs.Checking.{kept_skip, kept_more}
-use Rattle.dependent_po.specs.Counts.{standing_of}
+use Rattle.dependent_po.specs.Counts.{standing_of, Standing}
 use Rattle.dependent_po.specs.Formats.{HasOtherArguments}
-use Rattle.dependent_po.specs.EntryGathering.{AddsHeader, AddsKept, AreGathered, Gathers, HasGathered}
-use Rattle.dependent_po.specs.Headers.{IsHeaderOf, own_header}
-use Rattle.dependent_po.specs.declared.counts.Standing.{Standing}
+use Rattle.dependent_po.specs.EntryGathering.{AddsHeader, AddsKept, AreGathered, Gathers, HasGathered, Options}
+use Rattle.dependent_po.specs.Headers.{IsHeaderOf, own_header, Header}
 use Rattle.dependent_po.specs.declared.gathered.Gathered.{Gathered}
-use Rattle.dependent_po.specs.declared.header.Header.{Header}
 
 -- ---- the header
 
@@ -40,39 +37,20 @@ header_more o es e =
     ∙ find-append is_header (kept o es) (cond (is_kept o e) (e ∷ []) [])
     ∙ ap (option_or (kept_header o es)) (find_own o e (is_kept o e) (is_header e) refl refl)
 
-first_stays : (own header : Option po.Entry) (h : Header) → IsHeaderOf header (Some h)
-    → IsHeaderOf (option_or header own) (Some h)
-first_stays own None h is = absurd (cc is)
-first_stays own (Some e) h is = is
+either_more : (own header : Option po.Entry) (old new : Option Header) → IsHeaderOf header old
+    → (old ≡ None → IsHeaderOf own new) → ((h : Header) → old ≡ Some h → new ≡ old)
+    → IsHeaderOf (option_or header own) new
+either_more own None None new is none some = none refl
+either_more own (Some e) None new is none some = absurd (cc is)
+either_more own None (Some h) new is none some = absurd (cc is)
+either_more own (Some e) (Some h) new is none some = rw (some h refl) is
 
-own_comes : (own header : Option po.Entry) (found : Option Header) → IsHeaderOf header None → IsHeaderOf own found
-    → IsHeaderOf (option_or header own) found
-own_comes own None found is it = it
-own_comes own (Some e) found is it = absurd (cc is)
-
--- the header was found before
-pub header_stays : (o : Options) (e : po.Entry) (old : Option Header) (h : Header) → old ≡ Some h
-    → (es : List po.Entry) → IsHeaderOf (kept_header o es) old → IsHeaderOf (kept_header o (es ++ e ∷ [])) old
-header_stays o e old h some es is = subst (λ (x : Option po.Entry). IsHeaderOf x old) (sym (header_more o es e))
-    (subst (IsHeaderOf (option_or (kept_header o es) (own_header o e))) (sym some)
-    (first_stays (own_header o e) (kept_header o es) h (subst (IsHeaderOf (kept_header o es)) some is)))
-
--- it wasn't
-pub header_comes : (o : Options) (e : po.Entry) (old new : Option Header) → old ≡ None → IsHeaderOf (own_header o e) new
-    → (es : List po.Entry) → IsHeaderOf (kept_header o es) old → IsHeaderOf (kept_header o (es ++ e ∷ [])) new
-header_comes o e old new none own es is = subst (λ (x : Option po.Entry). IsHeaderOf x new) (sym (header_more o es e))
-    (own_comes (own_header o e) (kept_header o es) new (subst (IsHeaderOf (kept_header o es)) none is) own)
-
+-- the header was found before, or the entry may be it
 pub header_either : (o : Options) (e : po.Entry) (old new : Option Header)
     → (old ≡ None → IsHeaderOf (own_header o e) new) → ((h : Header) → old ≡ Some h → new ≡ old)
     → (es : List po.Entry) → IsHeaderOf (kept_header o es) old → IsHeaderOf (kept_header o (es ++ e ∷ [])) new
-header_either o e old new none some = of old refl
-  where
-    of : (x : Option Header) → old ≡ x → (es : List po.Entry) → IsHeaderOf (kept_header o es) old
-        → IsHeaderOf (kept_header o (es ++ e ∷ [])) new
-    of None is = header_comes o e old new is (none is)
-    of (Some h) is = λ es kept_is. subst (IsHeaderOf (kept_header o (es ++ e ∷ []))) (sym (some h is))
-        (header_stays o e old h is es kept_is)
+header_either o e old new none some es is = subst (λ (h : Option po.Entry). IsHeaderOf h new) (sym (header_more o es e))
+    (either_more (own_header o e) (kept_header o es) old new is none some)
 
 -- ---- one more entry
 

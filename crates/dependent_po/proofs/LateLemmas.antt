@@ -5,7 +5,6 @@ use Rattle.std.specs.Prelude.{◌⊎◌, IsTrue, option_map}
 use Rattle.std.specs.List.{Any, find}
 use Rattle.std.specs.Option.{option_map_or}
 use Rattle.std.proofs.lemmas.Bool.{false≢true}
-use Rattle.std.proofs.lemmas.List.{map-append}
 use Rattle.po_text.specs.Entries as po
 use Rattle.po_header.specs.Rule.{Rule, Given, Absent, Broken, HasRuleIn}
 use Rattle.mo_image.specs.Map.{first_form}
@@ -15,13 +14,11 @@ use Rattle.po_checks.specs.Found.{FirstLine, FailsFrom, HasFound}
 use Rattle.po_checks.specs.Kept.{is_header, is_kept, kept, kept_header, header_line_of, header_text_of, HasHeaderRule}
 use Rattle.po_checks.specs.Fails.{RuleRefuses, HeaderRefuses, rank}
 use Rattle.po_checks.specs.declared.findings.Findings.{Findings}
-use Rattle.po_checks.specs.declared.options.Options.{Options}
-use Rattle.po_checks.specs.declared.fault.LoadKind.{LoadKind}
 use Rattle.po_checks.specs.declared.fault.LoadKind.TheVariants.{Duplicate, Charset, SystemDependent, NoRule, BadRule}
 use Rattle.po_checks.specs.declared.fault.LoadKind.TheVariants.{FormCount, PluralRange, FormatMismatch, NewlineMismatch}
 use Rattle.po_checks.proofs.FirstLines.{any_none, any_head, any_tail, any_cases}
 use Rattle.dependent_po.specs.Formats.{HasOtherArguments}
-use Rattle.dependent_po.specs.EntryGathering.{FailsLate}
+use Rattle.dependent_po.specs.EntryGathering.{FailsLate, Options, LoadKind}
 
 -- the entry, as though it weren't flagged `c-format`
 abbrev pub bare : po.Entry → po.Entry
@@ -85,11 +82,14 @@ pub rule_bare : (o : Options) (es : List po.Entry) (rule : Rule) → HasHeaderRu
     → HasHeaderRule o (bares es) rule
 rule_bare o es rule has = subst (λ (t : Option (List ℕ)). HasRuleIn t rule) (sym (text_bare o es)) has
 
-bare_rule : (o : Options) (es : List po.Entry) (rule : Rule) → HasHeaderRule o (bares es) rule
-    → HasHeaderRule o es rule
-bare_rule o es rule has = subst (λ (t : Option (List ℕ)). HasRuleIn t rule) (text_bare o es) has
+-- ---- entries that are the same but for the flag
 
--- ---- tests that don't look at the flag
+twice : (es : List po.Entry) → bares (bares es) ≡ bares es
+twice [] = refl
+twice (e ∷ es) = ap (λ (ks : List po.Entry). bare e ∷ ks) (twice es)
+
+kept_same : (o : Options) (xs ys : List po.Entry) → bares xs ≡ bares ys → bares (kept o xs) ≡ bares (kept o ys)
+kept_same o xs ys same = sym (kept_bare o xs) ∙ ap (kept o) same ∙ kept_bare o ys
 
 -- what holds for an entry holds for the other
 pub record IsBlind (P : po.Entry → Type 0) : Type 0 where
@@ -111,77 +111,73 @@ newlines_blind = record {
   again = λ e h. record { named = h.named; mixed = h.mixed };
 }
 
-none_to : (P : po.Entry → Type 0) → IsBlind P → (es : List po.Entry) → NoneOf P es → NoneOf P (bares es)
-none_to P b [] none = tt
-none_to P b (e ∷ es) none = ((λ p. none.0 (b.again e p)), none_to P b es none.1)
+module _ (P : po.Entry → Type 0) (blind : IsBlind P) where
+  across : (x y : po.Entry) → bare x ≡ bare y → P x → P y
+  across x y same p = blind.again y (subst P same (blind.onto x p))
 
-first_to : (P : po.Entry → Type 0) → IsBlind P → (es : List po.Entry) (line : ℕ) → FirstAt P es line
-    → FirstAt P (bares es) line
-first_to P b es line f = record {
-  before = bares f.before;
-  e = bare f.e;
-  after = bares f.after;
-  split = ap bares f.split ∙ map-append bare f.before (f.e ∷ f.after);
-  none_before = none_to P b f.before f.none_before;
-  holds = b.onto f.e f.holds;
-  line_is = f.line_is;
-}
+  none_same : (xs ys : List po.Entry) → bares xs ≡ bares ys → NoneOf P xs → NoneOf P ys
+  none_same xs [] same none = tt
+  none_same [] (y ∷ ys) same none = absurd (cc same)
+  none_same (x ∷ xs) (y ∷ ys) same none =
+      let here : bare x ≡ bare y = cc same in
+      let rest : bares xs ≡ bares ys = cc same in
+      ((λ p. none.0 (across y x (sym here) p)), none_same xs ys rest none.1)
 
-first_back : (P : po.Entry → Type 0) → IsBlind P → (es before : List po.Entry) (y : po.Entry) (after : List po.Entry)
-    → bares es ≡ before ++ y ∷ after → NoneOf P before → P y → FirstAt P es y.line
-first_back P b [] [] y after split none holds = absurd (cc split)
-first_back P b [] (x ∷ before) y after split none holds = absurd (cc split)
-first_back P b (e ∷ es) [] y after split none holds =
-    let same : bare e ≡ y = cc split in
-    record {
-      before = [];
-      e = e;
-      after = es;
-      split = refl;
-      none_before = tt;
-      holds = b.again e (subst P (sym same) holds);
-      line_is = sym (ap (λ (x : po.Entry). x.line) same);
-    }
-first_back P b (e ∷ es) (x ∷ before) y after split none holds =
-    let same : bare e ≡ x = cc split in
-    let rest : bares es ≡ before ++ y ∷ after = cc split in
-    let f = first_back P b es before y after rest none.1 holds in
-    record {
-      before = e ∷ f.before;
-      e = f.e;
-      after = f.after;
-      split = ap (λ (xs : List po.Entry). e ∷ xs) f.split;
-      none_before = ((λ p. none.0 (subst P same (b.onto e p))), f.none_before);
-      holds = f.holds;
-      line_is = f.line_is;
-    }
+  any_same : (xs ys : List po.Entry) → bares xs ≡ bares ys → Any P xs → Any P ys
+  any_same [] ys same a = absurd (any_none P a)
+  any_same (x ∷ xs) [] same a = absurd (cc same)
+  any_same (x ∷ xs) (y ∷ ys) same a =
+      let here : bare x ≡ bare y = cc same in
+      let rest : bares xs ≡ bares ys = cc same in
+      elim (any_cases P x xs a) [
+        | inl p ↦ any_head P y ys (across x y here p)
+        | inr t ↦ any_tail P y ys (any_same xs ys rest t)
+      ]
 
-back : (P : po.Entry → Type 0) → IsBlind P → (es : List po.Entry) (line : ℕ) → FirstAt P (bares es) line
-    → FirstAt P es line
-back P b es line f = subst (FirstAt P es) (sym f.line_is) (first_back P b es f.before f.e f.after f.split f.none_before
-    f.holds)
+  first_from : (before : List po.Entry) (x : po.Entry) (after ys : List po.Entry)
+      → bares (before ++ x ∷ after) ≡ bares ys → NoneOf P before → P x → FirstAt P ys x.line
+  first_from before x after [] same none p = absurd (no_entry before same)
+    where
+      no_entry : (b : List po.Entry) → bares (b ++ x ∷ after) ≡ [] → ⊥
+      no_entry [] e = cc e
+      no_entry (z ∷ b) e = cc e
+  first_from [] x after (y ∷ ys) same none p =
+      let here : bare x ≡ bare y = cc same in
+      record {
+        before = [];
+        e = y;
+        after = ys;
+        split = refl;
+        none_before = tt;
+        holds = across x y here p;
+        line_is = ap (λ (e : po.Entry). e.line) here;
+      }
+  first_from (z ∷ before) x after (y ∷ ys) same none p =
+      let here : bare z ≡ bare y = cc same in
+      let rest : bares (before ++ x ∷ after) ≡ bares ys = cc same in
+      let f = first_from before x after ys rest none.1 p in
+      record {
+        before = y ∷ f.before;
+        e = f.e;
+        after = f.after;
+        split = ap (λ (es : List po.Entry). y ∷ es) f.split;
+        none_before = ((λ q. none.0 (across y z (sym here) q)), f.none_before);
+        holds = f.holds;
+        line_is = f.line_is;
+      }
 
-any_to : (P : po.Entry → Type 0) → IsBlind P → (es : List po.Entry) → Any P es → Any P (bares es)
-any_to P b [] a = absurd (any_none P a)
-any_to P b (e ∷ es) a = elim (any_cases P e es a) [
-  | inl p ↦ any_head P (bare e) (bares es) (b.onto e p)
-  | inr t ↦ any_tail P (bare e) (bares es) (any_to P b es t)
-]
-
-any_back : (P : po.Entry → Type 0) → IsBlind P → (es : List po.Entry) → Any P (bares es) → Any P es
-any_back P b [] a = absurd (any_none P a)
-any_back P b (e ∷ es) a = elim (any_cases P (bare e) (bares es) a) [
-  | inl p ↦ any_head P e es (b.again e p)
-  | inr t ↦ any_tail P e es (any_back P b es t)
-]
+  first_same : (xs ys : List po.Entry) → bares xs ≡ bares ys → (line : ℕ) → FirstAt P xs line → FirstAt P ys line
+  first_same xs ys same line f = subst (FirstAt P ys) (sym f.line_is)
+      (first_from f.before f.e f.after ys (ap bares (sym f.split) ∙ same) f.none_before f.holds)
 
 -- ---- what was found
 
 lines_to : (P : po.Entry → Type 0) → IsBlind P → (o : Options) (es : List po.Entry) (line : Option ℕ)
     → FirstLine P (kept o es) line → FirstLine P (kept o (bares es)) line
-lines_to P b o es None none = subst (NoneOf P) (sym (kept_bare o es)) (none_to P b (kept o es) none)
-lines_to P b o es (Some line) f = subst (λ (ks : List po.Entry). FirstAt P ks line) (sym (kept_bare o es))
-    (first_to P b (kept o es) line f)
+lines_to P b o es None none =
+    none_same P b (kept o es) (kept o (bares es)) (kept_same o es (bares es) (sym (twice es))) none
+lines_to P b o es (Some line) f =
+    first_same P b (kept o es) (kept o (bares es)) (kept_same o es (bares es) (sym (twice es))) line f
 
 none_flagged : (P : po.Entry → Type 0) → ((e : po.Entry) → P (bare e) → ⊥) → (es : List po.Entry) → NoneOf P (bares es)
 none_flagged P never [] = tt
@@ -208,55 +204,33 @@ found_bare o es f h = record {
 
 -- ---- what refuses the entries
 
-rule_to : (rule : Rule) (es : List po.Entry) (at : ℕ) (kind : LoadKind) (line : ℕ) → RuleRefuses rule es at kind line
-    → RuleRefuses rule (bares es) at kind line
-rule_to Absent es at NoRule line r = first_to IsPlural plural_blind es line r
-rule_to Absent es at _ line r = absurd r
-rule_to Broken es at BadRule line r = (any_to IsPlural plural_blind es r.0, r.1)
-rule_to Broken es at _ line r = absurd r
-rule_to (Given n tree) es at FormCount line r = first_to (HasOtherCount n) (count_blind n) es line r
-rule_to (Given n tree) es at (PluralRange m) line r = r
-rule_to (Given n tree) es at _ line r = absurd r
+rule_same : (rule : Rule) (xs ys : List po.Entry) → bares xs ≡ bares ys → (at : ℕ) (kind : LoadKind) (line : ℕ)
+    → RuleRefuses rule xs at kind line → RuleRefuses rule ys at kind line
+rule_same Absent xs ys same at NoRule line r = first_same IsPlural plural_blind xs ys same line r
+rule_same Absent xs ys same at _ line r = absurd r
+rule_same Broken xs ys same at BadRule line r = (any_same IsPlural plural_blind xs ys same r.0, r.1)
+rule_same Broken xs ys same at _ line r = absurd r
+rule_same (Given n tree) xs ys same at FormCount line r =
+    first_same (HasOtherCount n) (count_blind n) xs ys same line r
+rule_same (Given n tree) xs ys same at (PluralRange m) line r = r
+rule_same (Given n tree) xs ys same at _ line r = absurd r
 
-rule_back : (rule : Rule) (es : List po.Entry) (at : ℕ) (kind : LoadKind) (line : ℕ)
-    → RuleRefuses rule (bares es) at kind line → RuleRefuses rule es at kind line
-rule_back Absent es at NoRule line r = back IsPlural plural_blind es line r
-rule_back Absent es at _ line r = absurd r
-rule_back Broken es at BadRule line r = (any_back IsPlural plural_blind es r.0, r.1)
-rule_back Broken es at _ line r = absurd r
-rule_back (Given n tree) es at FormCount line r = back (HasOtherCount n) (count_blind n) es line r
-rule_back (Given n tree) es at (PluralRange m) line r = r
-rule_back (Given n tree) es at _ line r = absurd r
+module _ (o : Options) (xs ys : List po.Entry) (same : bares xs ≡ bares ys) where
+  header_same : (kind : LoadKind) (line : ℕ) → HeaderRefuses o xs kind line → HeaderRefuses o ys kind line
+  header_same kind line (rule, has, r) =
+      let text : header_text_of o xs ≡ header_text_of o ys = sym (text_bare o xs) ∙ ap (header_text_of o) same
+      ∙ text_bare o ys in
+      let at : header_line_of o xs ≡ header_line_of o ys = sym (line_bare o xs) ∙ ap (header_line_of o) same
+      ∙ line_bare o ys in (
+        rule,
+        subst (λ (t : Option (List ℕ)). HasRuleIn t rule) text has,
+        subst (λ (n : ℕ). RuleRefuses rule (kept o ys) n kind line) at
+            (rule_same rule (kept o xs) (kept o ys) (kept_same o xs ys same) (header_line_of o xs) kind line r),
+      )
 
-header_to : (o : Options) (es : List po.Entry) (kind : LoadKind) (line : ℕ) → HeaderRefuses o es kind line
-    → HeaderRefuses o (bares es) kind line
-header_to o es kind line (rule, has, r) = (
-  rule,
-  rule_bare o es rule has,
-  subst (λ (ks : List po.Entry). RuleRefuses rule ks (header_line_of o (bares es)) kind line) (sym (kept_bare o es))
-      (subst (λ (at : ℕ). RuleRefuses rule (bares (kept o es)) at kind line) (sym (line_bare o es))
-      (rule_to rule (kept o es) (header_line_of o es) kind line r)),
-)
-
-header_back : (o : Options) (es : List po.Entry) (kind : LoadKind) (line : ℕ) → HeaderRefuses o (bares es) kind line
-    → HeaderRefuses o es kind line
-header_back o es kind line (rule, has, r) = (
-  rule,
-  bare_rule o es rule has,
-  rule_back rule (kept o es) (header_line_of o es) kind line
-      (subst (λ (at : ℕ). RuleRefuses rule (bares (kept o es)) at kind line) (line_bare o es)
-      (subst (λ (ks : List po.Entry). RuleRefuses rule ks (header_line_of o (bares es)) kind line) (kept_bare o es) r)),
-)
-
-newlines_to : (o : Options) (es : List po.Entry) (line : ℕ) → FirstAt HasOtherNewlines (kept o es) line
-    → FirstAt HasOtherNewlines (kept o (bares es)) line
-newlines_to o es line f = subst (λ (ks : List po.Entry). FirstAt HasOtherNewlines ks line) (sym (kept_bare o es))
-    (first_to HasOtherNewlines newlines_blind (kept o es) line f)
-
-newlines_back : (o : Options) (es : List po.Entry) (line : ℕ) → FirstAt HasOtherNewlines (kept o (bares es)) line
-    → FirstAt HasOtherNewlines (kept o es) line
-newlines_back o es line f = back HasOtherNewlines newlines_blind (kept o es) line
-    (subst (λ (ks : List po.Entry). FirstAt HasOtherNewlines ks line) (kept_bare o es) f)
+  newlines_same : (line : ℕ) → FirstAt HasOtherNewlines (kept o xs) line → FirstAt HasOtherNewlines (kept o ys) line
+  newlines_same line f =
+      first_same HasOtherNewlines newlines_blind (kept o xs) (kept o ys) (kept_same o xs ys same) line f
 
 no_bare : (P : po.Entry → Type 0) → ((e : po.Entry) → P (bare e) → ⊥) → (o : Options) (es : List po.Entry) (line : ℕ)
     → FirstAt P (kept o (bares es)) line → ⊥
@@ -270,13 +244,14 @@ fails_back o es Duplicate line f = absurd (omega (arith, f.0))
 fails_back o es Charset line f = absurd (omega (arith, f.0))
 fails_back o es SystemDependent line f = absurd (no_bare HasSystemDependentText (λ e d. false≢true d.flagged) o es line
     f.1)
-fails_back o es NoRule line f = (f.0, (f.1.0, header_back o es NoRule line f.1.1))
-fails_back o es BadRule line f = (f.0, (f.1.0, header_back o es BadRule line f.1.1))
-fails_back o es FormCount line f = (f.0, (f.1.0, header_back o es FormCount line f.1.1))
-fails_back o es (PluralRange n) line f = (f.0, (f.1.0, header_back o es (PluralRange n) line f.1.1))
+fails_back o es NoRule line f = (f.0, (f.1.0, header_same o (bares es) es (twice es) NoRule line f.1.1))
+fails_back o es BadRule line f = (f.0, (f.1.0, header_same o (bares es) es (twice es) BadRule line f.1.1))
+fails_back o es FormCount line f = (f.0, (f.1.0, header_same o (bares es) es (twice es) FormCount line f.1.1))
+fails_back o es (PluralRange n) line f =
+    (f.0, (f.1.0, header_same o (bares es) es (twice es) (PluralRange n) line f.1.1))
 fails_back o es FormatMismatch line f = absurd (no_bare checks.HasOtherArguments (λ e d. false≢true d.flagged) o es line
     f.1.1)
-fails_back o es NewlineMismatch line f = (f.0, (f.1.0, newlines_back o es line f.1.1))
+fails_back o es NewlineMismatch line f = (f.0, (f.1.0, newlines_same o (bares es) es (twice es) line f.1.1))
 fails_back o es _ line f = absurd f.1
 
 -- what refuses the entries refuses the bare ones, or their formats differ
@@ -289,10 +264,11 @@ pub fails_to : (o : Options) (es : List po.Entry) (kind : LoadKind) (line : ℕ)
 fails_to o es Duplicate line f = absurd (omega (arith, f.0))
 fails_to o es Charset line f = absurd (omega (arith, f.0))
 fails_to o es SystemDependent line f = absurd f.1
-fails_to o es NoRule line f = inl (f.0, (f.1.0, header_to o es NoRule line f.1.1))
-fails_to o es BadRule line f = inl (f.0, (f.1.0, header_to o es BadRule line f.1.1))
-fails_to o es FormCount line f = inl (f.0, (f.1.0, header_to o es FormCount line f.1.1))
-fails_to o es (PluralRange n) line f = inl (f.0, (f.1.0, header_to o es (PluralRange n) line f.1.1))
+fails_to o es NoRule line f = inl (f.0, (f.1.0, header_same o es (bares es) (sym (twice es)) NoRule line f.1.1))
+fails_to o es BadRule line f = inl (f.0, (f.1.0, header_same o es (bares es) (sym (twice es)) BadRule line f.1.1))
+fails_to o es FormCount line f = inl (f.0, (f.1.0, header_same o es (bares es) (sym (twice es)) FormCount line f.1.1))
+fails_to o es (PluralRange n) line f =
+    inl (f.0, (f.1.0, header_same o es (bares es) (sym (twice es)) (PluralRange n) line f.1.1))
 fails_to o es FormatMismatch line f = inr (refl, f.1.0, f.1.1)
-fails_to o es NewlineMismatch line f = inl (f.0, (f.1.0, newlines_to o es line f.1.1))
+fails_to o es NewlineMismatch line f = inl (f.0, (f.1.0, newlines_same o es (bares es) (sym (twice es)) line f.1.1))
 fails_to o es _ line f = absurd f.1

@@ -6,25 +6,20 @@ use Rattle.std.specs.Option.{option_map_or}
 use Rattle.std.proofs.lemmas.List.{length-map}
 use denote.Ref.{Bor}
 use Rattle.po_text.specs.Entries as po
-use Rattle.po_text.specs.Outcome.{Gives}
 use Rattle.po_text.proofs.Sizes.{gives_count}
 use Rattle.po_header.specs.Rule.{Rule, HasRuleIn}
 use Rattle.po_checks.specs.Kept.{kept_header, header_text_of, HasHeaderRule}
 use Rattle.po_checks.specs.Refusal.{out_of_memory}
-use Rattle.po_checks.specs.declared.options.Options.{Options}
 use Rattle.po_checks.specs.declared.fault.LoadFault.{LoadFault}
-use Rattle.mo_image.specs.Map.{first_form}
 use Rattle.mo_segments.specs.MessageStrings.{Strings, strings_of}
 use Rattle.mo_segments.specs.Flat.{AreKept}
 use Rattle.catalogue.specs.Meaning.{lacking, none_missing}
 use Rattle.dependent_po.specs.Counts.{standing_of, stats_by}
-use Rattle.dependent_po.specs.EntryGathering.{HasGathered, IsGatheredOf, IsLateFault, IsSoundText}
-use Rattle.dependent_po.specs.Headers.{header_texts, stored_texts, IsHeaderOf}
-use Rattle.dependent_po.specs.MacroMeaning.{Means, Refuses}
+use Rattle.dependent_po.specs.EntryGathering.{HasGathered, IsGatheredOf, IsLateFault, IsSoundText, Gives, Options}
+use Rattle.dependent_po.specs.Headers.{header_texts, stored_texts, IsHeaderOf, first_form, Header}
+use Rattle.dependent_po.specs.MacroMeaning.{Means, Refuses, DependentCompiled}
 use Rattle.dependent_po.specs.SplitViews.{messages_in}
-use Rattle.dependent_po.specs.declared.compiled.DependentCompiled.{DependentCompiled}
 use Rattle.dependent_po.specs.declared.gathered.Gathered.{Gathered}
-use Rattle.dependent_po.specs.declared.header.Header.{Header}
 use Rattle.dependent_po.proofs.CountLemmas.{stats_are}
 use Rattle.dependent_po.proofs.FaultLemmas.{all_pass, gathered_line, refuses_late}
 

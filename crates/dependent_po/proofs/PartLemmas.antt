@@ -7,11 +7,9 @@ use Rattle.std.proofs.lemmas.List.Elements.{filter-append}
 use Rattle.po_text.specs.Entries as po
 use Rattle.mo_segments.specs.MessageStrings.{Strings, strings_in, strings_of}
 use Rattle.mo_segments.specs.declared.messages.Strings.{Strings as Held}
-use Rattle.mo_dependent.specs.declared.split.Dependent.{Dependent}
-use Rattle.dependent_po.specs.EntryGathering.{AreGathered, AddsMessage}
+use Rattle.dependent_po.specs.EntryGathering.{AreGathered, AddsMessage, Messages}
 use Rattle.dependent_po.specs.SplitMessages.{Message, AreMessages, IsMessageOf, has_split, is_static}
-use Rattle.dependent_po.specs.SplitViews.{message_in, messages_in}
-use Rattle.dependent_po.specs.declared.messages.Messages.{Messages}
+use Rattle.dependent_po.specs.SplitViews.{message_in, messages_in, Dependent}
 
 filter_more : {X : Type 0} (p : X → Bool) (xs : List X) (x : X) → p x ≡ true → filter p (xs ++ x ∷ [])
     ≡ filter p xs ++ x ∷ []

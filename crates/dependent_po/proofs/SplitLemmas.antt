@@ -10,10 +10,8 @@ use Rattle.po_text.proofs.Sizes.{forms_size}
 use Rattle.mo_image.proofs.Joining.{joined_step}
 use Rattle.c_macros.specs.MacroSplits.{AreWithin, IsSplitAt}
 use Rattle.c_macros.specs.declared.Side.TheVariants as side
-use Rattle.c_macros.specs.declared.Split.{Split}
-use Rattle.dependent_po.specs.FormAdding.{AddsForm, AddsSplits, HasTranslation}
+use Rattle.dependent_po.specs.FormAdding.{AddsForm, AddsSplits, HasTranslation, Split, Translation}
 use Rattle.dependent_po.specs.SplitMessages.{moved, AreFormSplits, AreSplitsIf}
-use Rattle.dependent_po.specs.declared.dependent.Translation.{Translation}
 
 -- ---- splits within a text
 

@@ -5,19 +5,15 @@ use Rattle.std.specs.List.{filter, join_with_byte, AllByRecursion}
 use Rattle.std.proofs.lemmas.List.{append-nil, length-append}
 use Rattle.po_text.specs.Entries as po
 use Rattle.po_checks.specs.Kept.{kept, message_of}
-use Rattle.po_checks.specs.declared.options.Options.{Options}
 use Rattle.mo_image.specs.Entry.{key_bytes, original, translation, with_plural}
 use Rattle.c_macros.specs.MacroSplits.{AreWithin}
 use Rattle.c_macros.specs.declared.Side.TheVariants as side
-use Rattle.c_macros.specs.declared.Split.{Split}
 use Rattle.c_macros.proofs.SplitLemmas.{split_within}
 use Rattle.mo_dependent.specs.Splits.{end_of, IsSplit, LieFrom}
-use Rattle.mo_dependent.specs.declared.split.Dependent.{Dependent}
-use Rattle.dependent_po.specs.MacroMeaning.{Means}
+use Rattle.dependent_po.specs.MacroMeaning.{Means, Options, DependentCompiled}
 use Rattle.dependent_po.specs.SplitMessages.{front_len, moved, AreFormSplits, AreMessages, AreOriginalSplits}
-use Rattle.dependent_po.specs.SplitMessages.{AreSplitsIf, has_split, IsMessageOf, Message}
-use Rattle.dependent_po.specs.SplitViews.{messages_in}
-use Rattle.dependent_po.specs.declared.compiled.DependentCompiled.{DependentCompiled}
+use Rattle.dependent_po.specs.SplitMessages.{AreSplitsIf, has_split, IsMessageOf, Message, Split}
+use Rattle.dependent_po.specs.SplitViews.{messages_in, Dependent}
 
 -- ---- splits of a part of the text, and those behind it
 

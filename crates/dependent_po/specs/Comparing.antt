@@ -1,10 +1,10 @@
 -- Private: texts that were read as formats.
 use Rattle.std.specs.Prelude.{ℕ, ⊤, List}
-use Rattle.c_signature.specs.declared.Strictness.{Strictness}
-use Rattle.c_macros.specs.MacroAgreement.{Agrees}
-use Rattle.c_macros.specs.MacroFormat.{Lists, IsInvalid}
-use Rattle.c_macros.specs.declared.Kind.{Kind}
-use Rattle.dependent_po.specs.declared.formats.Format.{Format}
+pub use Rattle.c_signature.specs.declared.Strictness.{Strictness}
+pub use Rattle.c_macros.specs.MacroAgreement.{Agrees}
+pub use Rattle.c_macros.specs.MacroFormat.{Lists, IsInvalid}
+pub use Rattle.c_macros.specs.declared.Kind.{Kind}
+pub use Rattle.dependent_po.specs.declared.formats.Format.{Format}
 use Rattle.dependent_po.specs.declared.formats.Format.TheVariants.{Arguments, Invalid}
 
 -- how a text reads as a format

@@ -2,9 +2,9 @@
 use Rattle.std.specs.Prelude.{Bool, true, false, if◌then◌else◌, List}
 use Rattle.std.specs.List.{count_by}
 use Rattle.po_text.specs.Entries as po
-use Rattle.po_checks.specs.Kept.{is_header, is_untranslated}
-use Rattle.catalogue.specs.declared.compiler.Stats.{Stats}
-use Rattle.dependent_po.specs.declared.counts.Standing.{Standing}
+pub use Rattle.po_checks.specs.Kept.{is_header, is_untranslated}
+pub use Rattle.catalogue.specs.declared.compiler.Stats.{Stats}
+pub use Rattle.dependent_po.specs.declared.counts.Standing.{Standing}
 use Rattle.dependent_po.specs.declared.counts.Standing.TheVariants.{Header, Untranslated, Fuzzy, Translated}
 
 abbrev pub standing_of : po.Entry → Standing

@@ -2,23 +2,20 @@
 use Rattle.std.specs.Prelude.{◌≡◌, ◌≤◌, ℕ, IsTrue, List, [], ◌∷◌, ◌++◌, map, Option}
 use Rattle.std.specs.List.{filter}
 use Rattle.po_text.specs.Entries as po
-use Rattle.po_text.specs.Outcome.{Gives}
-use Rattle.po_header.specs.Rule.{Rule}
+pub use Rattle.po_text.specs.Outcome.{Gives}
+pub use Rattle.po_header.specs.Rule.{Rule}
 use Rattle.po_checks.specs.Found.{FirstFault, FirstLine, HasFound}
 use Rattle.po_checks.specs.Fails.{IsDuplicateAt, IsForeignAt, rank}
 use Rattle.po_checks.specs.Kept.{kept, kept_header, HasHeaderRule}
-use Rattle.po_checks.specs.declared.options.Options.{Options}
 use Rattle.po_checks.specs.declared.fault.LoadFault.{LoadFault}
-use Rattle.po_checks.specs.declared.fault.LoadKind.{LoadKind}
-use Rattle.mo_segments.specs.MessageStrings.{strings_of}
 use Rattle.dependent_po.specs.Counts.{standing_of}
 use Rattle.dependent_po.specs.Formats.{HasOtherArguments}
-use Rattle.dependent_po.specs.Headers.{IsHeaderOf}
-use Rattle.dependent_po.specs.MacroMeaning.{Fails}
+pub use Rattle.dependent_po.specs.Headers.{IsHeaderOf, Options}
+pub use Rattle.dependent_po.specs.MacroMeaning.{Fails, LoadKind, strings_of}
 use Rattle.dependent_po.specs.SplitMessages.{Message, AreMessages, has_split, static_strings}
 use Rattle.dependent_po.specs.SplitViews.{messages_in}
 use Rattle.dependent_po.specs.declared.gathered.Gathered.{Gathered}
-use Rattle.dependent_po.specs.declared.messages.Messages.{Messages}
+pub use Rattle.dependent_po.specs.declared.messages.Messages.{Messages}
 
 -- ---- messages
 

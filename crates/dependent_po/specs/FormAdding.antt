@@ -2,11 +2,9 @@
 use Rattle.std.specs.Prelude.{◌≡◌, ℕ, ◌-◌, Bool, true, false, if◌then◌else◌, List, ◌∷◌, ◌++◌, length, map}
 use Rattle.std.specs.Prelude.{string_bytes}
 use Rattle.std.specs.List.{join_with_byte}
-use Rattle.c_macros.specs.MacroSplits.{IsSplitAt}
 use Rattle.c_macros.specs.declared.Side.TheVariants as side
-use Rattle.c_macros.specs.declared.Split.{Split}
-use Rattle.dependent_po.specs.SplitMessages.{moved, AreFormSplits, AreSplitsIf}
-use Rattle.dependent_po.specs.declared.dependent.Translation.{Translation}
+pub use Rattle.dependent_po.specs.SplitMessages.{moved, AreFormSplits, AreSplitsIf, IsSplitAt, Split}
+pub use Rattle.dependent_po.specs.declared.dependent.Translation.{Translation}
 
 -- the splits of a form that was put at a place were added, if they are looked for
 abbrev pub AddsSplits : Bool → List ℕ → ℕ → List Split → List Split → Type 0

@@ -2,7 +2,7 @@
 use Rattle.std.specs.Prelude.{◌≡◌, ◌⊎◌, ℕ, true, List}
 use Rattle.std.specs.List.{Any}
 use Rattle.po_text.specs.Entries as po
-use Rattle.po_checks.specs.Checks.{format_original, strictness}
+pub use Rattle.po_checks.specs.Checks.{format_original, strictness}
 use Rattle.c_macros.specs.declared.Kind.{Kind}
 use Rattle.c_signature.specs.declared.Strictness.{Strictness}
 use Rattle.c_macros.specs.MacroAgreement.{Agrees}

@@ -2,10 +2,10 @@
 use Rattle.std.specs.Prelude.{◌≡◌, ℕ, ◌&&◌, if◌then◌else◌, List, Option, None, Some, string_bytes}
 use Rattle.std.specs.Option.{option_map}
 use Rattle.po_text.specs.Entries as po
-use Rattle.mo_image.specs.Map.{first_form}
+pub use Rattle.mo_image.specs.Map.{first_form}
 use Rattle.po_checks.specs.Kept.{is_header, is_kept}
-use Rattle.po_checks.specs.declared.options.Options.{Options}
-use Rattle.dependent_po.specs.declared.header.Header.{Header}
+pub use Rattle.po_checks.specs.declared.options.Options.{Options}
+pub use Rattle.dependent_po.specs.declared.header.Header.{Header}
 
 -- the text and the line of a header
 abbrev pub header_texts : Option po.Entry → Option (List ℕ × ℕ)

@@ -4,20 +4,20 @@ use Rattle.std.specs.Prelude.{◌≡◌, ◌⊎◌, ℕ, IsTrue, List}
 use Rattle.po_text.specs.Entries as po
 use Rattle.po_text.specs.Outcome as po_outcome
 use Rattle.po_text.specs.declared.PoKind.{PoKind}
-use Rattle.mo_segments.specs.MessageStrings.{strings_of}
-use Rattle.po_checks.specs.Checks.{FirstAt}
+pub use Rattle.mo_segments.specs.MessageStrings.{strings_of}
+pub use Rattle.po_checks.specs.Checks.{FirstAt}
 use Rattle.po_checks.specs.Kept.{kept, header_line_of}
 use Rattle.po_checks.specs.Fails as plain
 use Rattle.po_checks.specs.Fails.{IsFirst}
 use Rattle.po_checks.specs.Refusal.{kind_of}
-use Rattle.po_checks.specs.declared.options.Options.{Options}
-use Rattle.po_checks.specs.declared.fault.LoadKind.{LoadKind}
+pub use Rattle.po_checks.specs.declared.options.Options.{Options}
+pub use Rattle.po_checks.specs.declared.fault.LoadKind.{LoadKind}
 use Rattle.po_checks.specs.declared.fault.LoadKind.TheVariants.{SystemDependent, FormatMismatch}
 use Rattle.catalogue.specs.Meaning.{stats_of, missing_of}
 use Rattle.dependent_po.specs.Formats.{HasOtherArguments}
 use Rattle.dependent_po.specs.SplitMessages.{ArePartsOf}
 use Rattle.dependent_po.specs.SplitViews.{messages_in}
-use Rattle.dependent_po.specs.declared.compiled.DependentCompiled.{DependentCompiled}
+pub use Rattle.dependent_po.specs.declared.compiled.DependentCompiled.{DependentCompiled}
 
 -- the entries are refused with this kind at this line: as by the compiler of catalogues, but formats may name macros
 abbrev pub Fails : Options → List po.Entry → LoadKind → ℕ → Type 0

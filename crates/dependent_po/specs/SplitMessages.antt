@@ -8,9 +8,9 @@ use Rattle.po_checks.specs.Kept.{message_of, is_empty}
 use Rattle.mo_image.specs.Entry.{original, translation}
 use Rattle.mo_segments.specs.MessageStrings.{Strings}
 use Rattle.mo_segments.specs.Flat.{AreKept}
-use Rattle.c_macros.specs.MacroSplits.{IsSplitAt}
+pub use Rattle.c_macros.specs.MacroSplits.{IsSplitAt}
 use Rattle.c_macros.specs.declared.Side.TheVariants.{Original, Translation}
-use Rattle.c_macros.specs.declared.Split.{Split}
+pub use Rattle.c_macros.specs.declared.Split.{Split}
 
 -- the two strings of a message, each with its splits, which are counted from the string's first byte
 pub record Message : Type 0 where

@@ -1,6 +1,6 @@
 -- The messages that the code holds.
 use Rattle.std.specs.Prelude.{List, map}
-use Rattle.mo_dependent.specs.declared.split.Dependent.{Dependent}
+pub use Rattle.mo_dependent.specs.declared.split.Dependent.{Dependent}
 use Rattle.dependent_po.specs.SplitMessages.{Message}
 
 abbrev pub message_in : Dependent → Message

@@ -1,6 +1,5 @@
 use Rattle.std.proofs.Common.{◌++◌, ℕ, List, length, map, ap, ◌∙◌, arith}
-use Rattle.c_macros.specs.declared.Split.{Split}
-use Rattle.dependent_po.specs.SplitMessages.{moved}
+use Rattle.dependent_po.specs.SplitMessages.{moved, Split}
 use Rattle.dependent_po.proofs.dependent.original_splits.Goals as goal
 
 pub add_moved-requires : goal.add_moved-requires
