@@ -7,8 +7,7 @@ use Rattle.mo_segments.specs.Machine.{value, value_text}
 use Rattle.mo_segments.specs.declared.machine.Value.{Value}
 use Rattle.mo_dependent.specs.Splits.{end_of, name_at, LieFrom}
 use Rattle.mo_dependent.proofs.Steps.{lies_to}
-use Rattle.c_macros.specs.declared.Split.{Split}
-use Rattle.dependent_files.specs.MessagesHere.{joined, expanded_from}
+use Rattle.dependent_files.specs.MessagesHere.{joined, expanded_from, Split}
 
 behind : (out piece own : List ℕ) (rest : Option (List ℕ))
     → option_map (λ r. ((out ++ piece) ++ own) ++ r) rest ≡ option_map (λ r. out ++ r) (joined piece (Some own) rest)

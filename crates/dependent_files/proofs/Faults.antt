@@ -1,18 +1,13 @@
 -- Why messages have no file, step by step.
 use Rattle.std.proofs.Common.{◌≡◌, ℕ, List, subst, inl, inr, refl, sym}
 use Rattle.std.specs.Prelude.{Result, Ok, Err, IfOk, IfErr}
-use Rattle.mo_image.specs.Entry.{Entry}
 use Rattle.mo_segments.specs.MessageStrings.{Strings, strings_of}
-use Rattle.mo_dependent.specs.declared.split.Dependent.{Dependent}
-use Rattle.mo_revisions.specs.AnyReading.{IsCatalogueOf}
-use Rattle.po_checks.specs.declared.options.Options.{Options}
 use Rattle.dependent_po.specs.declared.compiled.DependentCompiled.{DependentCompiled}
-use Rattle.dependent_files.specs.MessagesHere.{messages_here}
-use Rattle.dependent_files.specs.MessagesFile.{HasNoFile, IsFile, IsWritten}
+use Rattle.dependent_files.specs.MessagesHere.{messages_here, Dependent}
+use Rattle.dependent_files.specs.MessagesFile.{HasNoFile, IsFile, IsWritten, Entry, IsCatalogueOf, FileFault}
 use Rattle.dependent_files.specs.FileFaults.{IsCatalogueFault, IsReadingFault, IsWritingFault}
-use Rattle.dependent_files.specs.TextFiles.{HasFileAny, HasNoFileAny, IsFileOf, MeansAny, RefusesAny}
+use Rattle.dependent_files.specs.TextFiles.{HasFileAny, HasNoFileAny, IsFileOf, MeansAny, RefusesAny, Options}
 use Rattle.dependent_files.specs.declared.compiler.DependentFile.{DependentFile}
-use Rattle.dependent_files.specs.declared.fault.FileFault.{FileFault}
 use Rattle.dependent_files.specs.declared.fault.FileFault.TheVariants.{Text, TooLarge, NotReadBack, Catalogue}
 
 -- ---- the file

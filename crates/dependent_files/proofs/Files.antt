@@ -1,16 +1,13 @@
 -- The file of a map, and its length.
 use Rattle.std.proofs.Common.{◌≡◌, ℕ, ◌≤◌, List, [], ◌∷◌, length, ap, sym, subst, refl, arith}
 use Rattle.std.specs.Prelude.{◌≢◌}
-use Rattle.mo_image.specs.Entry.{Entry}
 use Rattle.mo_image.specs.Map.{IsFileOf, IsLawful}
 use Rattle.mo_image.specs.MoFile.{header_len, spelling}
 use Rattle.mo_file.specs.MoReading.{Mo}
 use Rattle.mo_file.proofs.OneMap.{unique_map}
 use Rattle.mo_file.proofs.ReadBack.{reads_back}
-use Rattle.mo_dependent.specs.Layout.{IsDependentFile}
-use Rattle.mo_dependent.specs.declared.split.Dependent.{Dependent}
 use Rattle.mo_dependent.proofs.Lengths.{length-file}
-use Rattle.dependent_files.specs.MessagesFile.{IsFile}
+use Rattle.dependent_files.specs.MessagesFile.{IsFile, Entry, IsDependentFile, Dependent}
 
 pub one_map : (bytes : List ℕ) (m n : List Entry) → IsLawful m → bytes ≡ spelling m → IsFileOf bytes n → n ≡ m
 one_map bytes m n lawful e file = unique_map bytes n m

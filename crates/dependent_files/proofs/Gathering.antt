@@ -9,8 +9,7 @@ use Rattle.std.proofs.Math.ListN.{get_or-map}
 use Rattle.std.proofs.lemmas.List.Elements.{filter_map-append}
 use Rattle.mo_segments.specs.declared.messages.Strings.{Strings as Held}
 use Rattle.mo_segments.specs.MessageStrings.{Strings, strings_in, strings_of}
-use Rattle.mo_dependent.specs.declared.split.Dependent.{Dependent}
-use Rattle.dependent_files.specs.MessagesHere.{message_here, messages_here}
+use Rattle.dependent_files.specs.MessagesHere.{message_here, messages_here, Dependent}
 
 pub strings_next : (messages : List Held) (i n : ℕ) (message : Held) → n ≡ suc i → i < length messages
     → message ≡ get_or messages i message

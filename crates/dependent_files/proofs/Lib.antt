@@ -1,7 +1,6 @@
 mod Expanding
 mod Gathering
 mod Files
-mod Foreign
 mod Faults
 mod Flags
 mod FlagBytes

@@ -1,13 +1,11 @@
 -- Private: what each step towards a file can fail for.
 use Rattle.std.specs.Prelude.{◌≡◌, ℕ, List}
-use Rattle.po_checks.specs.Refusal.{out_of_memory}
-use Rattle.any_charset.specs.declared.fault.TextFault.TheVariants.{Load}
 use Rattle.mo_image.specs.Entry.{Entry}
 use Rattle.mo_segments.specs.MessageStrings.{Strings}
 use Rattle.mo_dependent.specs.Layout.{IsWriteFault}
 use Rattle.mo_dependent.specs.declared.split.Dependent.{Dependent}
 use Rattle.mo_dependent.specs.declared.fault.WriteFault.TheVariants as write
-use Rattle.dependent_files.specs.MessagesFile.{LacksCatalogue, ReadsOtherwise, SwellsInReading}
+use Rattle.dependent_files.specs.MessagesFile.{LacksCatalogue, ReadsOtherwise, SwellsInReading, out_of_memory, Load}
 use Rattle.dependent_files.specs.declared.fault.FileFault.{FileFault}
 use Rattle.dependent_files.specs.declared.fault.FileFault.TheVariants.{Text, TooLarge, NotReadBack, Catalogue}
 

@@ -1,25 +1,23 @@
 -- The MO file of static and system-dependent messages, and their catalogue (GNU gettext manual, "MO Files").
 use Rattle.std.specs.Prelude.{◌≡◌, ◌≢◌, ◌⊎◌, ℕ, List, [], ◌∷◌}
-use Rattle.po_checks.specs.Refusal.{out_of_memory}
-use Rattle.any_charset.specs.declared.fault.TextFault.TheVariants.{Load}
-use Rattle.mo_image.specs.Entry.{Entry}
+pub use Rattle.po_checks.specs.Refusal.{out_of_memory}
+pub use Rattle.any_charset.specs.declared.fault.TextFault.TheVariants.{Load}
+pub use Rattle.mo_image.specs.Entry.{Entry}
 use Rattle.mo_image.specs.MoFile.{spelling}
 use Rattle.mo_file.specs.MoReading.{file_of}
 use Rattle.mo_file.specs.declared.fault.MoFault.{MoFault}
 use Rattle.mo_file.specs.declared.fault.MoFault.TheVariants as mo
-use Rattle.mo_segments.specs.MessageStrings.{Strings}
 use Rattle.mo_segments.specs.declared.fault.DependentFault.TheVariants as part
-use Rattle.mo_dependent.specs.Layout.{IsDependentFile, IsWriteFault}
-use Rattle.mo_dependent.specs.declared.split.Dependent.{Dependent}
+pub use Rattle.mo_dependent.specs.Layout.{IsDependentFile, IsWriteFault}
 use Rattle.mo_dependent.specs.declared.fault.WriteFault.TheVariants as write
 use Rattle.mo_revisions.specs.Revisions.{HasMessages}
-use Rattle.mo_revisions.specs.AnyReading.{IsCatalogueOf}
+pub use Rattle.mo_revisions.specs.AnyReading.{IsCatalogueOf}
 use Rattle.mo_revisions.specs.Refusing.{HasNoCatalogue, IsMessagesFault}
 use Rattle.mo_revisions.specs.declared.fault.AnyMoFault.{AnyMoFault}
 use Rattle.mo_revisions.specs.declared.fault.AnyMoFault.TheVariants.{Dependent as OfPart, Mo as OfMo}
-use Rattle.dependent_files.specs.MessagesHere.{messages_here}
-use Rattle.dependent_files.specs.declared.fault.FileFault.{FileFault}
-use Rattle.dependent_files.specs.declared.fault.FileFault.TheVariants.{Text, TooLarge, NotReadBack, Catalogue}
+pub use Rattle.dependent_files.specs.MessagesHere.{messages_here, Strings, Dependent}
+pub use Rattle.dependent_files.specs.declared.fault.FileFault.{FileFault}
+pub use Rattle.dependent_files.specs.declared.fault.FileFault.TheVariants.{Text, TooLarge, NotReadBack, Catalogue}
 
 -- ---- the file
 

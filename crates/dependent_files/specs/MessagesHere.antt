@@ -3,11 +3,11 @@
 use Rattle.std.specs.Prelude.{ℕ, ◌-◌, List, [], ◌∷◌, ◌++◌, take, drop, Option, Some, None}
 use Rattle.std.specs.List.{filter_map}
 use Rattle.mo_segments.specs.Machine.{value}
-use Rattle.mo_segments.specs.MessageStrings.{Strings}
+pub use Rattle.mo_segments.specs.MessageStrings.{Strings}
 use Rattle.mo_dependent.specs.Splits.{end_of, name_at}
-use Rattle.c_macros.specs.declared.Split.{Split}
+pub use Rattle.c_macros.specs.declared.Split.{Split}
 use Rattle.mo_dependent.specs.declared.split.SplitText.{SplitText}
-use Rattle.mo_dependent.specs.declared.split.Dependent.{Dependent}
+pub use Rattle.mo_dependent.specs.declared.split.Dependent.{Dependent}
 
 -- ---- a text
 

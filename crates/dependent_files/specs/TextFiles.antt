@@ -2,62 +2,29 @@
 -- "msgfmt Invocation"; "c-format").
 
 -- GNU msgfmt converts a text in another charset to UTF-8, since its version 0.22.
-use Rattle.std.specs.Prelude.{◌≡◌, ◌⊎◌, ℕ, List}
-use Rattle.po_checks.specs.Refusal.{out_of_memory}
-use Rattle.po_checks.specs.declared.options.Options.{Options}
-use Rattle.po_checks.specs.declared.fault.LoadFault.{LoadFault}
-use Rattle.po_checks.specs.declared.fault.LoadKind.{LoadKind}
-use Rattle.any_charset.specs.Declaring.{DeclaresNone}
-use Rattle.any_charset.specs.Recoding.{IsForCharset, IsRecoded, LacksCharacter}
+use Rattle.std.specs.Prelude.{◌≡◌, ℕ, List}
+pub use Rattle.po_checks.specs.declared.options.Options.{Options}
+use Rattle.any_charset.specs.Recoding.{GivesAny, GivesRecoded, RefusesAnyBy}
 use Rattle.any_charset.specs.declared.fault.TextFault.{TextFault}
-use Rattle.any_charset.specs.declared.fault.TextFault.TheVariants.{Load, NoCharacter}
 use Rattle.mo_segments.specs.MessageStrings.{strings_of}
 use Rattle.dependent_po.specs.MacroMeaning.{Means, Refuses}
 use Rattle.dependent_po.specs.declared.compiled.DependentCompiled.{DependentCompiled}
-use Rattle.dependent_files.specs.MessagesFile.{HasFile, HasNoFile}
+use Rattle.dependent_files.specs.MessagesFile.{HasFile, HasNoFile, FileFault, Text}
 use Rattle.dependent_files.specs.declared.compiler.DependentFile.{DependentFile}
-use Rattle.dependent_files.specs.declared.fault.FileFault.{FileFault}
-use Rattle.dependent_files.specs.declared.fault.FileFault.TheVariants.{Text}
 
 -- ---- a text in any charset
 
--- as UTF-8 the text is refused for its charset
-abbrev pub IsForeign : List ℕ → Options → Type 0
-IsForeign text options = (kind : LoadKind) × (line : ℕ) × Refuses text options kind line × IsForCharset kind
-
 -- a text in another charset, which compiles to this once it is recoded
-pub record MeansRecoded (text : List ℕ) (options : Options) (compiled : DependentCompiled) : Type 0 where
-  pub foreign : IsForeign text options
-  pub recoded : List ℕ
-  pub recodes : IsRecoded text recoded
-  pub means : Means recoded options compiled
+abbrev pub MeansRecoded : List ℕ → Options → DependentCompiled → Type 0
+MeansRecoded text options compiled = GivesRecoded Refuses Means text options compiled
 
 -- the text compiles to this, as it is or recoded
 abbrev pub MeansAny : List ℕ → Options → DependentCompiled → Type 0
-MeansAny text options compiled = Means text options compiled ⊎ MeansRecoded text options compiled
-
--- the text is refused as it is, and declares no other charset if that is why
-pub record RefusesPlain (text : List ℕ) (options : Options) (fault : LoadFault) : Type 0 where
-  pub refuses : Refuses text options fault.kind fault.line
-  pub no_other : IsForCharset fault.kind → DeclaresNone text
-
--- the text is in another charset, and is refused once it is recoded
-pub record RefusesRecoded (text : List ℕ) (options : Options) (fault : LoadFault) : Type 0 where
-  pub foreign : IsForeign text options
-  pub recoded : List ℕ
-  pub recodes : IsRecoded text recoded
-  pub refuses : Refuses recoded options fault.kind fault.line
-
--- the text is in another charset, which has no character for a byte
-pub record HasNoCharacter (text : List ℕ) (options : Options) (line : ℕ) : Type 0 where
-  pub foreign : IsForeign text options
-  pub lacks : LacksCharacter text line
+MeansAny text options compiled = GivesAny Refuses Means text options compiled
 
 -- why a text in any charset is refused
 abbrev pub RefusesAny : List ℕ → Options → TextFault → Type 0
-RefusesAny text options (Load fault) =
-    (fault ≡ out_of_memory) ⊎ RefusesPlain text options fault ⊎ RefusesRecoded text options fault
-RefusesAny text options (NoCharacter line) = HasNoCharacter text options line
+RefusesAny text options fault = RefusesAnyBy Refuses text options fault
 
 -- ---- its file
 
