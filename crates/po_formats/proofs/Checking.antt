@@ -2,12 +2,10 @@
 use Rattle.std.proofs.Common.{◌≡◌, Bool, List, refl, subst}
 use Rattle.std.specs.Prelude.{Result, Ok, Err, OnOk, map, option_map}
 use Rattle.po_text.specs.Entries as po
-use Rattle.format_checks.specs.declared.Fault.{Fault}
 use Rattle.format_checks.specs.declared.entry.Entry as code_entry
-use Rattle.format_checks.specs.FlaggedEntries.{Entry}
 use Rattle.format_checks.specs.FormatFaults.{AddsFaults, all_questions}
 use Rattle.format_checks.specs.FormatViews.{entry_view}
-use Rattle.po_formats.specs.EntryFaults.{checked_entry}
+use Rattle.po_formats.specs.EntryFaults.{checked_entry, Fault, Entry}
 
 -- what was given to the check is the entry
 pub record IsGiven (e : po.Entry) (given : code_entry.Entry) : Type 0 where

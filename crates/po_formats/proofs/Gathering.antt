@@ -1,18 +1,36 @@
--- The faults of entries, one entry after another.
+-- The faults of entries, one entry after another, and faults in reading them.
 use Rattle.std.proofs.Common.{◌≡◌, ℕ, Bool, true, false, List, [], ◌∷◌, ◌++◌, refl, sym, ap, ◌∙◌, append_assoc, subst}
+use Rattle.std.proofs.Common.{inl, inr}
+use Rattle.std.specs.Prelude.{◌⊎◌}
 use Rattle.std.proofs.lemmas.List.{append-nil}
 use Rattle.po_text.specs.Entries as po
 use Rattle.po_text.specs.Outcome as outcome
 use Rattle.po_text.specs.Outcome.{IsReadable, body}
-use Rattle.po_text.specs.Progress.{HasRead, GoesOn}
+use Rattle.po_text.specs.Progress.{HasRead, GoesOn, IsMemoryOrFaulty}
+use Rattle.po_text.specs.declared.fault.PoFault.{PoFault}
 use Rattle.po_text.specs.declared.reader.EntryReader.{EntryReader}
+use Rattle.po_text.proofs.Outcomes.{faulty_refuses}
 use Rattle.po_checks.specs.Kept.{is_kept, kept}
+use Rattle.po_checks.specs.Refusal.{kind_of, out_of_memory}
 use Rattle.po_checks.specs.declared.options.Options.{Options}
+use Rattle.po_checks.specs.declared.fault.LoadFault.{LoadFault}
 use Rattle.po_checks.proofs.Checking.{kept_skip, kept_more}
-use Rattle.format_checks.specs.FormatFaults.{AddsFaults, all_questions}
-use Rattle.format_checks.specs.declared.Fault.{Fault}
-use Rattle.po_formats.specs.Adding.{AddsIf}
+use Rattle.po_formats.specs.Adding.{AddsIf, AddsFaults, all_questions, Fault}
 use Rattle.po_formats.specs.EntryFaults.{AreAllFaults, checked_entry}
+use Rattle.po_formats.specs.PlainFaults.{RefusesText}
+
+-- ---- faults in reading
+
+abbrev pub load_fault : PoFault → LoadFault
+load_fault fault = record { kind = kind_of fault.kind; line = fault.line }
+
+pub unread : (text : List ℕ) (fault : PoFault) → IsReadable text → IsMemoryOrFaulty (body text) fault
+    → (load_fault fault ≡ out_of_memory) ⊎ RefusesText text (kind_of fault.kind) fault.line
+unread text fault readable (inl e) = inl (ap load_fault e)
+unread text fault readable (inr f) =
+    inr (fault.kind, refl, faulty_refuses text fault.kind fault.line readable f)
+
+-- ---- one entry more
 
 all_more : (often : List Bool) (es : List po.Entry) (e : po.Entry) (old new : List Fault) → AreAllFaults often es old
     → AddsFaults e.form_line (all_questions (checked_entry e) often) old new

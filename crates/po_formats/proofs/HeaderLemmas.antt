@@ -14,12 +14,9 @@ use Rattle.po_text.specs.declared.reader.EntryReader.{EntryReader}
 use Rattle.po_header.specs.Rule.{Rule, HasRuleIn}
 use Rattle.message.specs.Message.{first_form}
 use Rattle.po_checks.specs.Kept.{is_header, is_kept, kept, kept_header}
-use Rattle.po_checks.specs.Fails.{IsForeignAt}
-use Rattle.po_checks.specs.declared.options.Options.{Options}
 use Rattle.po_checks.specs.declared.fault.LoadFault.{LoadFault}
-use Rattle.po_checks.specs.declared.fault.LoadKind.TheVariants.{Charset}
 use Rattle.po_formats.specs.HeaderViews.{header_texts, IsForeignBy, IsHeaderOf, IsRuleBy, own_header, stored_texts}
-use Rattle.po_formats.specs.PlainFaults.{IsAccepted}
+use Rattle.po_formats.specs.PlainFaults.{IsAccepted, IsForeignAt, Options, Charset}
 use Rattle.po_formats.specs.declared.header.Header.{Header}
 
 -- ---- one entry after another

@@ -3,4 +3,3 @@ pub mod Gathering
 pub mod HeaderLemmas
 pub mod OneList
 pub mod PlainLemmas
-pub mod AnyLemmas

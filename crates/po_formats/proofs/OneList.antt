@@ -7,13 +7,10 @@ use Rattle.po_text.proofs.Outcomes.{gives_one}
 use Rattle.po_header.specs.Rule.{Rule, HasRuleIn}
 use Rattle.po_header.proofs.RuleLemmas.{HasRule-one}
 use Rattle.po_checks.specs.Kept.{header_text_of, kept}
-use Rattle.po_checks.specs.declared.options.Options.{Options}
-use Rattle.format_checks.specs.FormatFaults.{all_questions, AreFaults}
-use Rattle.format_checks.specs.declared.Fault.{Fault}
 use Rattle.format_checks.proofs.OneList.{none_wrong, one_list}
 use Rattle.po_formats.specs.Often.{often}
-use Rattle.po_formats.specs.EntryFaults.{AreAllFaults, HasGoodFormats, checked_entry}
-use Rattle.po_formats.specs.PlainFaults.{HasFaults}
+use Rattle.po_formats.specs.EntryFaults.{AreAllFaults, HasGoodFormats, checked_entry, all_questions, AreFaults, Fault}
+use Rattle.po_formats.specs.PlainFaults.{HasFaults, Options}
 
 all_one : (served : List Bool) (es : List po.Entry) (found others : List Fault) → AreAllFaults served es found
     → AreAllFaults served es others → found ≡ others

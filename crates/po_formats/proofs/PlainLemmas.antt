@@ -3,16 +3,10 @@ use Rattle.std.proofs.Common.{◌≡◌, ℕ, Bool, List, subst, inr, Option}
 use Rattle.po_text.specs.Entries as po
 use Rattle.po_text.specs.Outcome as outcome
 use Rattle.po_text.proofs.Outcomes.{gives_one}
-use Rattle.po_header.specs.Rule.{Rule}
-use Rattle.po_checks.specs.Kept.{kept, kept_header}
-use Rattle.po_checks.specs.declared.options.Options.{Options}
-use Rattle.po_checks.specs.declared.fault.LoadFault.{LoadFault}
-use Rattle.format_checks.specs.declared.Fault.{Fault}
-use Rattle.po_formats.specs.Often.{often}
-use Rattle.po_formats.specs.EntryFaults.{AreAllFaults}
-use Rattle.po_formats.specs.PlainFaults.{HasFaults, Refuses}
-use Rattle.po_formats.specs.HeaderViews.{IsForeignBy, IsHeaderOf, IsRuleBy}
-use Rattle.po_formats.specs.declared.header.Header.{Header}
+use Rattle.po_formats.specs.Often.{often, Rule}
+use Rattle.po_formats.specs.EntryFaults.{AreAllFaults, Fault}
+use Rattle.po_formats.specs.PlainFaults.{HasFaults, Refuses, kept, kept_header, Options}
+use Rattle.po_formats.specs.HeaderViews.{IsForeignBy, IsHeaderOf, IsRuleBy, LoadFault, Header}
 use Rattle.po_formats.proofs.HeaderLemmas.{foreign_holds, rule_holds}
 
 -- what was found in a text: its kept header, and the faults of its entries

@@ -1,9 +1,8 @@
 -- Private: the faults of one more entry.
 use Rattle.std.specs.Prelude.{◌≡◌, Bool, true, false, List}
 use Rattle.po_text.specs.Entries as po
-use Rattle.format_checks.specs.FormatFaults.{AddsFaults, all_questions}
-use Rattle.format_checks.specs.declared.Fault.{Fault}
-use Rattle.po_formats.specs.EntryFaults.{checked_entry}
+pub use Rattle.format_checks.specs.FormatFaults.{AddsFaults, all_questions}
+pub use Rattle.po_formats.specs.EntryFaults.{checked_entry, Fault}
 
 -- the faults of the entry were added to a list if it is kept; if not, the list stayed the same
 abbrev pub AddsIf : Bool → List Bool → po.Entry → List Fault → List Fault → Type 0

@@ -2,9 +2,9 @@
 use Rattle.std.specs.Prelude.{◌≡◌, Bool, List, [], ◌∷◌, ◌++◌}
 use Rattle.std.specs.List.{AllByRecursion}
 use Rattle.po_text.specs.Entries as po
-use Rattle.format_checks.specs.FlaggedEntries.{Entry}
-use Rattle.format_checks.specs.FormatFaults.{AreFaults, IsAccepted, all_questions}
-use Rattle.format_checks.specs.declared.Fault.{Fault}
+pub use Rattle.format_checks.specs.FlaggedEntries.{Entry}
+pub use Rattle.format_checks.specs.FormatFaults.{AreFaults, IsAccepted, all_questions}
+pub use Rattle.format_checks.specs.declared.Fault.{Fault}
 
 -- the entry as it is checked; a fault is on the line of the first `msgstr`
 abbrev pub checked_entry : po.Entry → Entry

@@ -7,9 +7,9 @@ use Rattle.message.specs.Message.{first_form}
 use Rattle.message.specs.Charset.{HasAcceptedCharset}
 use Rattle.po_checks.specs.Kept.{is_header, is_kept}
 use Rattle.po_checks.specs.declared.options.Options.{Options}
-use Rattle.po_checks.specs.declared.fault.LoadFault.{LoadFault}
+pub use Rattle.po_checks.specs.declared.fault.LoadFault.{LoadFault}
 use Rattle.po_checks.specs.declared.fault.LoadKind.TheVariants.{Charset}
-use Rattle.po_formats.specs.declared.header.Header.{Header}
+pub use Rattle.po_formats.specs.declared.header.Header.{Header}
 
 -- the text and the line of a header
 abbrev pub header_texts : Option po.Entry → Option (List ℕ × ℕ)

@@ -4,7 +4,7 @@ use Rattle.std.specs.Prelude.{ℕ, zero, suc, ◌+◌, ◌==◌, nat_le, Bool, f
 use Rattle.std.specs.Option.{option_map_or}
 use Rattle.po_header.specs.Grammar.{Tree}
 use Rattle.po_header.specs.TreeValue.{value}
-use Rattle.po_header.specs.Rule.{Rule, Given}
+pub use Rattle.po_header.specs.Rule.{Rule, Given}
 
 -- the expression gives n this form
 abbrev pub serves : Tree → ℕ → ℕ → Bool

@@ -3,16 +3,14 @@ use Rattle.std.specs.Prelude.{◌≡◌, ◌⊎◌, ℕ, List, Option, None, Som
 use Rattle.po_text.specs.Entries as po
 use Rattle.po_text.specs.Outcome as outcome
 use Rattle.po_text.specs.declared.PoKind.{PoKind}
-use Rattle.po_header.specs.Rule.{Rule}
-use Rattle.po_checks.specs.Kept.{kept, kept_header, HasHeaderRule, NamesAcceptedCharset}
-use Rattle.po_checks.specs.Fails.{IsForeignAt}
+pub use Rattle.po_checks.specs.Kept.{kept, kept_header, HasHeaderRule, NamesAcceptedCharset}
+pub use Rattle.po_checks.specs.Fails.{IsForeignAt}
 use Rattle.po_checks.specs.Refusal.{kind_of}
-use Rattle.po_checks.specs.declared.options.Options.{Options}
+pub use Rattle.po_checks.specs.declared.options.Options.{Options}
 use Rattle.po_checks.specs.declared.fault.LoadKind.{LoadKind}
-use Rattle.po_checks.specs.declared.fault.LoadKind.TheVariants.{Charset}
-use Rattle.format_checks.specs.declared.Fault.{Fault}
-use Rattle.po_formats.specs.Often.{often}
-use Rattle.po_formats.specs.EntryFaults.{AreAllFaults}
+pub use Rattle.po_checks.specs.declared.fault.LoadKind.TheVariants.{Charset}
+use Rattle.po_formats.specs.Often.{often, Rule}
+pub use Rattle.po_formats.specs.EntryFaults.{AreAllFaults, Fault}
 
 -- the kept header names an accepted charset or none, or there is no kept header
 abbrev pub IsAccepted : Option po.Entry → Type 0

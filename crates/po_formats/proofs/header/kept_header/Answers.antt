@@ -1,16 +1,10 @@
-use Rattle.std.proofs.Common.{◌≡◌, inl, inr, ap, refl, ◌∙◌, true, false}
+use Rattle.std.proofs.Common.{◌≡◌, inr, ap, refl, ◌∙◌, true, false}
 use Rattle.std.specs.Prelude.{is_some, not}
 use Rattle.std.proofs.lemmas.Result.{err_from_is_err_and}
 use Rattle.po_text.specs.Outcome.{body}
-use Rattle.po_text.proofs.Outcomes.{faulty_refuses}
-use Rattle.po_checks.specs.Refusal.{kind_of}
-use Rattle.po_text.specs.declared.fault.PoFault.{PoFault}
-use Rattle.po_checks.specs.declared.fault.LoadFault.{LoadFault}
+use Rattle.po_formats.proofs.Gathering.{unread}
 use Rattle.po_formats.proofs.HeaderLemmas.{finds_none, finds_more, finds_all}
 use Rattle.po_formats.proofs.header.kept_header.Goals as goal
-
-abbrev load_fault : PoFault → LoadFault
-load_fault fault = record { kind = kind_of fault.kind; line = fault.line }
 
 pub returns-in_err-reader-clause-err : goal.returns-in_err-reader-clause-err
 returns-in_err-reader-clause-err c =
@@ -21,16 +15,8 @@ returns-in_err-reader-clause-err c =
 pub returns-in_err-next_entry-clause-err : goal.returns-in_err-next_entry-clause-err
 returns-in_err-next_entry-clause-err c =
     let p = err_from_is_err_and c.from_residual-in_err-next_entry.result c.from_residual-in_err-next_entry.ensures.1 in
-    let fault = c.in_err-next_entry.field-0.0 in
-    rw (p.1, p.2) (elim (c.in_err-next_entry.ensures.fault (body c.args.text.now) c.entries.invariant.entries
-    c.entries.invariant.read) [
-      | inl e ↦ inl (ap load_fault e)
-      | inr f ↦ inr (
-        fault.kind,
-        refl,
-        faulty_refuses c.args.text.now fault.kind fault.line c.in_ok-reader.ensures.readable f,
-      )
-    ])
+    rw (p.1, p.2) (unread c.args.text.now c.in_err-next_entry.field-0.0 c.in_ok-reader.ensures.readable
+    (c.in_err-next_entry.ensures.fault (body c.args.text.now) c.entries.invariant.entries c.entries.invariant.read))
 
 pub entries-init : goal.entries-init
 entries-init c = finds_none _ _ _ _ c.in_ok-reader.ensures.read refl
