@@ -165,23 +165,23 @@ enters_after b notice version fault looks o f new is numbers answers seen =
 
 -- ---- a new reader
 
-made_new : (b : List (List LoadValue)) (entrance : Option SeenValue) (version fault : ℕ) (looks : List Look) (o : Origin)
+new_in : (b : List (List LoadValue)) (entrance : Option SeenValue) (version fault : ℕ) (looks : List Look) (o : Origin)
     (f : ℕ) → IsReaderFrom (record { entrance = entrance }) (record { origin = o; fault = f })
     → HasNumbers (record { origin = o; fault = f }) version fault
     → AnswersIn looks (Open (record { origin = o; fault = f })) → b ≡ []
     → Leads b (entry_acts (told_by_entrance (record { entrance = entrance })) version fault looks)
     (Open (record { origin = o; fault = f }))
-made_new b None version fault looks (Lent r) f is numbers answers none = absurd is.1
-made_new b (Some e) version fault looks (Lent r) f is numbers answers none =
+new_in b None version fault looks (Lent r) f is numbers answers none = absurd is.1
+new_in b (Some e) version fault looks (Lent r) f is numbers answers none =
     in_version b (Some (version_of e.batches)) version fault looks (Lent r) f numbers is.0 (
       subst (λ (l : List (List LoadValue)). StartsWith r.batches l) (sym none) (begins_nil r.batches),
       (e.batches, refl, is.1.1),
     ) answers
-made_new b entrance version fault looks (Made set) f is numbers answers none =
+new_in b entrance version fault looks (Made set) f is numbers answers none =
     refused_for b (told_by_entrance (record { entrance = entrance })) version fault memory_fault looks
     (Open (record { origin = Made set; fault = f })) (numbers.fault_is ∙ is.fault_is) refl (is.fault_is, none)
-made_new b entrance version fault looks (Left r set) f is numbers answers none = absurd (cc (is.refused))
-made_new b entrance version fault looks Refused f is numbers answers none =
+new_in b entrance version fault looks (Left r set) f is numbers answers none = absurd (cc (is.refused))
+new_in b entrance version fault looks Refused f is numbers answers none =
     refused_for b (told_by_entrance (record { entrance = entrance })) version fault memory_fault looks
     (Open (record { origin = Refused; fault = f })) (numbers.fault_is ∙ is.fault_is) refl (is.fault_is, none)
 
@@ -216,7 +216,7 @@ acts_step b k h (MakesReader entrance n told version fault) next looks is answer
     (λ answers seen. idle b (h.readers k) seen)
     (λ r made answers seen. subst (λ (t : Option ℕ). Leads b (entry_acts t version fault looks) (Open r))
     (sym made.told_is)
-    (made_new b e.0.entrance version fault looks r.origin r.fault made.made made.numbers answers seen)) answers seen
+    (new_in b e.0.entrance version fault looks r.origin r.fault made.made made.numbers answers seen)) answers seen
 acts_step b k h (Enters n version fault) next looks is answers seen =
     turned_at (EntersIn version fault) k n h.readers next
     (λ t x y. AnswersIn looks y → HasSeen b x → Leads b (if t then entry_acts None version fault looks else []) y) is
