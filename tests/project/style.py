@@ -52,6 +52,7 @@ PARTS = (
     "Lua Format Strings",
     "MO Files",
     "Object Pascal Format Strings",
+    "Objective C Format Strings",
     "PHP Format Strings",
     "PO Files",
     "Perl Format Strings",

@@ -1,0 +1,3 @@
+pub mod ObjcKindLemmas
+pub mod ObjcDirectiveLemmas
+pub mod ObjcTextLemmas

@@ -1,0 +1,4 @@
+pub mod ObjcKinds
+pub mod ObjcConversions
+pub mod ObjcDirectives
+pub mod ObjcFormat
