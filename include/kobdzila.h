@@ -263,7 +263,7 @@ enum kob_format_language {
 enum kob_format_difference {
     KOB_FORMAT_INVALID = 0,   /* it is no format */
     KOB_FORMAT_ARGUMENTS = 1, /* its arguments don't agree with the original's */
-    KOB_FORMAT_UNREAD = 2     /* unknown: it or its original has a directive of Scheme or of Lisp that isn't read */
+    KOB_FORMAT_UNREAD = 2     /* unknown: it or its original has a directive that isn't read (Lisp, Objective-C) */
 };
 
 /* A fault of one form. */

@@ -32,6 +32,7 @@ static void take_flag(struct flags *flags, struct part flag) {
     flags->fuzzy |= is(flag, "fuzzy");
     if (says(flag, "c-format") || denies(flag, "c-format"))
         flags->c_format = says(flag, "c-format");
+    flags->objc_format |= says(flag, "objc-format");
     flags->has_range |= is(flag, "range:");
     const char *checked = checked_format(flag);
     if (!flags->checked)

@@ -22,6 +22,7 @@ static const struct language {
     read_format *read;
     find_difference *difference;
 } languages[] = {
+    {KOB_OBJC_FORMAT, "objc-format", "Objective C ", NULL, NULL},
     {KOB_PYTHON_FORMAT, "python-format", "Python ", read_python_format, python_difference},
     {KOB_PYTHON_BRACE_FORMAT, "python-brace-format", "Python brace ", read_brace_format, brace_difference},
     {KOB_JAVA_FORMAT, "java-format", "Java MessageFormat ", NULL, NULL},

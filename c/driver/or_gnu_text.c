@@ -85,11 +85,6 @@ static void look_at_header(struct scan *scan, const struct entry *entry, struct 
 
 /* ---- other entries */
 
-/* Whether the texts are formats of Objective-C, which GNU msgfmt splits at macros and flags `I` as it does those of C. */
-static bool is_objective_c(const struct flags *flags) {
-    return flags->other.at && is_name(flags->other, "objc-format");
-}
-
 /* Take in an entry that is kept. */
 static void look_at_kept(struct scan *scan, const struct entry *entry) {
     const struct flags *flags = &entry->flags;
@@ -99,8 +94,10 @@ static void look_at_kept(struct scan *scan, const struct entry *entry) {
         needs_gnu_for(scan, "newlines differ");
     bool may_depend = scan->has_macros && find(entry->whole, "<PRI", 0);
     struct part forms = {entry->form.at, entry->whole.end};
-    bool is_split = is_objective_c(flags) && (may_depend || may_have_digits_flag(forms));
-    if ((checks || is_split) && flags->other.at)
+    /* GNU msgfmt splits formats of Objective-C at macros and flags `I`, as it does those of C */
+    if (flags->objc_format && (may_depend || may_have_digits_flag(forms)))
+        needs_gnu_for(scan, "objc-format");
+    if (checks && flags->other.at)
         needs_gnu(scan, "", flags->other);
     if (checks && flags->checked && (flags->has_range || !has_library()))
         needs_gnu_for(scan, flags->checked);

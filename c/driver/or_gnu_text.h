@@ -75,6 +75,7 @@ struct flags {
     const char *checked;  /* the first flag of a format that libkobdzila checks, or NULL: of the last line of flags */
     const char *our_checked; /* of all lines, as Kobdzila's has them */
     bool is_checked_again;   /* several lines have one */
+    bool objc_format;     /* of the last line of flags */
     bool has_range;
     struct part other;    /* the first flag of a format that only GNU msgfmt checks, or NULL */
 };

@@ -51,6 +51,9 @@ JAVA = ("{0}", "{0}", "{1}", "{1}", "{2,number}", "{2,number,integer}", "{2,numb
         "{2,choice,0#''{1}''}", "{2,choice,0\\\\u2264{2,choice,0#{1}'|'1#{0}}}", "{2,number,0\\\\u0023;#}")  # fmt: skip
 JAVA_FAULTS = ("{", "}", "{}", "{a}", "{0", "{-1}", "{0,}", "{0,text}", "{2,date}", "{3,numbers}", "{2,number,x}", "{2,number,'#'}",
                "{2,number,0;}", "{2,choice,#x}", "{2,choice,0|1#x}", "{2,choice,0#'{'}", "{3,choice,0#{3,date}}", "'", "{2,number,\\\\u0030}")  # fmt: skip
+OBJC = ("%@", "%@", "%d", "%i", "%u", "%ld", "%lld", "%hhd", "%jhd", "%zu", "%tx", "%f", "%lf", "%qf", "%c", "%C", "%s", "%ls",
+        "%p", "%n", "%m", "%%", "%-+5.2f", "%*d", "%.*s", "%'d", "%1$@", "%1$@", "%2$d", "%2$*1$d", "%4294967297$@")  # fmt: skip
+OBJC_FAULTS = ("%", "%y", "%D", "%0$@", "%3$@", "%hhl", "%*0$d", "%1$", "%\u00e9")
 GCC = ("%s", "%s", "%d", "%d", "%ld", "%lld", "%wu", "%x", "%c", "%p", "%qD", "%J", "%+#T", "%E", "%H", "%P", "%m", "%m", "%%", "%<", "%>",
        "%.5s", "%.*s", "%1$s", "%1$s", "%2$d", "%2$.*1$s", "%4294967297$s")  # fmt: skip
 GCC_FAULTS = ("%", "%y", "%X", "%5d", "%llld", "%lwd", "%qqd", "%0$s", "%1$m", "%q%", "%.s", "%.5d", "%1$.*1$s", "%2$.*s", "%1$", "%\u00e9")
@@ -110,6 +113,7 @@ OTHERS = {
     "java-format": (JAVA, JAVA_FAULTS),
     "java-printf-format": (FORMATTER, FORMATTER_FAULTS),
     "gcc-internal-format": (GCC, GCC_FAULTS),
+    "objc-format": (OBJC, OBJC_FAULTS),
     "scheme-format": (SCHEME, SCHEME_FAULTS),
     "lisp-format": (LISP, LISP_FAULTS),
     "ruby-format": (RUBY, RUBY_FAULTS),

@@ -83,6 +83,8 @@ fault 'librep, a character' librep-format '%d' '%c' "$differ"
 fault 'librep, no conversion' librep-format '%d' '%y' "'msgstr' is not a valid librep format string, unlike 'msgid'."
 fault 'Ruby, another kind' ruby-format '%d' '%s' "$differ"
 fault 'Ruby, a flag after the width' ruby-format '%d' '%5-d' "'msgstr' is not a valid Ruby format string, unlike 'msgid'."
+fault 'Objective-C, another kind' objc-format '%@' '%s' "$differ"
+fault 'Objective-C, no conversion' objc-format '%@' '%y' "'msgstr' is not a valid Objective C format string, unlike 'msgid'."
 fault 'GCC, another kind' gcc-internal-format '%qD' '%qT' "$differ"
 fault 'GCC, no conversion' gcc-internal-format '%d' '%y' "'msgstr' is not a valid GCC internal format string, unlike 'msgid'."
 fault 'Scheme, any object' scheme-format '~d' '~a' "$differ"
@@ -153,6 +155,8 @@ served 'no fault, java.util.Formatter' ours java-printf-format '%d %s' '%2$s %1$
 served 'no fault, .NET' ours csharp-format '{0} {1}' '{1,5} {0:X}' -c
 served 'no fault, librep' ours librep-format '%d %s' '%2$s %1$d' -c
 served 'no fault, Ruby' ours ruby-format '%<a>d %{b}' '%<b>s %5<a>d' -c
+served 'no fault, Objective-C' ours objc-format '%@ %ld' '%2$ld: %1$@' -c
+served 'a size before n' 'GNU\t1\tobjc-format that is not read here' objc-format '%n' '%ln' -c
 served 'no fault, GCC' ours gcc-internal-format '%qD %m' '%m %J' -c
 served 'no fault, Scheme' ours scheme-format '~a ~d~:p' '~s, ~x' -c
 served 'no fault, Lisp' ours lisp-format "~10,'0d ~a" '~d ~w' -c

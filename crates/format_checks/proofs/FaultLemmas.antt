@@ -15,12 +15,14 @@ use Rattle.format_flags.specs.declared.languages.Language.TheVariants.{Python, P
 use Rattle.format_flags.specs.declared.languages.Language.TheVariants.{ObjectiveC, Scheme, Lisp, Ruby}
 use Rattle.format_arguments.specs.Arguments.{Argument}
 use Rattle.numbered_arguments.specs.declared.Numbered as code_numbered
+use Rattle.objc_format.specs.ObjcFormat as objc_format
 use Rattle.lisp_formats.specs.declared.Kind as code_placed
 use Rattle.lisp_formats.specs.declared.Notation.{Notation as LispNotation}
 use Rattle.lisp_formats.specs.LispFormat as lisp_formats
 use Rattle.format_checks.specs.FormatLanguages.{Asked, Named, Numbered, Placed, Lists, HasFault, IsNoFormat, is_named}
 use Rattle.format_checks.specs.FormatLanguages.{ListsNamed, FailsNamed, ListsNumbered, FailsNumbered, lisp_of}
 use Rattle.format_checks.specs.FormatLanguages.{Reading, Format, NoFormat, Unread, IsReading, IsPlacedReading}
+use Rattle.format_checks.specs.FormatLanguages.{is_objc, IsOtherUnread, IsObjcReading}
 use Rattle.format_flags.specs.FormatFlags.{has}
 use Rattle.format_checks.specs.FlaggedEntries.{Entry, original, rule_for}
 use Rattle.format_checks.specs.FormatFaults.{Question, question, questions_from, questions, flagged_questions}
@@ -188,9 +190,36 @@ no_numbered language text Invalid is none other =
     either language text (λ asked x. never_named language text asked is x) none other
 no_numbered language text Memory is none other = none
 
-pub no_format : (language : Language) (text : List ℕ) → lisp_of language ≡ None → HasFault language text Invalid
-    → IsNoFormat language text
-no_format language text none nothing = (nothing, λ unread. absurd (rw none at unread))
+-- but for Objective-C, all formats of languages that are none of lisp_formats are read
+pub never_unread : (language : Language) (text : List ℕ) → is_objc language ≡ false → IsOtherUnread language text → ⊥
+never_unread ObjectiveC text other x = absurd (cc other)
+never_unread _ text other x = x
+
+pub no_format : (language : Language) (text : List ℕ) → lisp_of language ≡ None → is_objc language ≡ false
+    → HasFault language text Invalid → IsNoFormat language text
+no_format language text none other nothing =
+    (nothing, λ unread. never_unread language text other (rw none at unread))
+
+no_objc : (text : List ℕ) → ((asked : List code_numbered.Numbered) → ¬ objc_format.HasSignature text asked)
+    → (asked : Asked) → Lists ObjectiveC text asked → ⊥
+no_objc text none (Named asked) x = x
+no_objc text none (Numbered asked) x = none asked x
+no_objc text none (Placed asked) x = x
+
+objc_reading : (language : Language) (text : List ℕ) (reading : Reading) → is_objc language ≡ true
+    → IsObjcReading text reading → IsReading language text reading
+objc_reading ObjectiveC text (Format (Named asked)) is x = absurd x
+objc_reading ObjectiveC text (Format (Numbered asked)) is x = x
+objc_reading ObjectiveC text (Format (Placed asked)) is x = absurd x
+objc_reading ObjectiveC text NoFormat is (none, read) = (no_objc text none, read)
+objc_reading ObjectiveC text Unread is x = x
+objc_reading _ text reading is x = absurd (cc is)
+
+pub objc_result : {X E : Type 0} (language : Language) (text : List ℕ) (view : X → Reading) (result : Result X E)
+    → is_objc language ≡ true → IfOk result (λ found. IsObjcReading text (view found))
+    → IfOk result (λ found. IsReading language text (view found))
+objc_result language text view (Ok found) is x = objc_reading language text (view found) is x
+objc_result language text view (Err error) is x = x
 
 no_lisp : (language : Language) (notation : LispNotation) (text : List ℕ) → lisp_of language ≡ Some notation
     → ((asked : List code_placed.Kind) → ¬ lisp_formats.HasSignature notation text asked) → (asked : Asked)

@@ -21,7 +21,9 @@ use Rattle.php_format.proofs.PhpDirectiveLemmas as php_lemmas
 use Rattle.format_flags.specs.declared.languages.Language.{Language}
 use Rattle.format_flags.specs.declared.languages.Language.TheVariants.{Python, PythonBrace, Shell, PerlBrace, Php}
 use Rattle.format_flags.specs.declared.languages.Language.TheVariants.{Java, JavaPrintf, CSharp, Librep, KdeKuit}
-use Rattle.format_flags.specs.declared.languages.Language.TheVariants.{GccInternal, Ruby}
+use Rattle.format_flags.specs.declared.languages.Language.TheVariants.{GccInternal, ObjectiveC, Ruby}
+use Rattle.std.proofs.Common.{inl, inr}
+use Rattle.std.proofs.lemmas.Bool.{cases_Bool}
 use Rattle.named_formats.specs.declared.Notation.{Notation as Names}
 use Rattle.named_formats.specs.declared.Notation.TheVariants as names
 use Rattle.named_formats.specs.NameDirectives as name_directives
@@ -37,6 +39,7 @@ use Rattle.script_formats.specs.Collecting.{asks as script_asks}
 use Rattle.script_formats.specs.ScriptDirectives as script_directives
 use Rattle.script_formats.specs.ScriptFormat as script_formats
 use Rattle.script_formats.proofs.ScriptDirectiveLemmas as script_lemmas
+use Rattle.objc_format.proofs.ObjcTextLemmas as objc_lemmas
 use Rattle.java_formats.proofs.ReadingLemmas.{one_list as one_of_java}
 use Rattle.java_printf_format.proofs.PrintfTextLemmas.{one_list as one_of_java_printf}
 use Rattle.csharp_format.proofs.CSharpTextLemmas.{one_list as one_of_csharp}
@@ -53,8 +56,9 @@ use Rattle.lisp_formats.specs.LispFormat as lisp_formats
 use Rattle.lisp_formats.proofs.LispTextLemmas.{one_list as one_of_lisp, read_or_unread}
 use Rattle.format_checks.specs.FormatLanguages.{Asked, Named, Numbered, Placed, Lists, agree, script_of, number_of}
 use Rattle.format_checks.specs.FormatLanguages.{ListsNamed, ListsOther, ListsPlaced, lisp_of, IsUnread}
+use Rattle.format_checks.specs.FormatLanguages.{is_objc, IsOtherUnread}
 use Rattle.format_checks.specs.FormatLanguages.{Reading, Format, NoFormat, Unread, IsReading}
-use Rattle.format_checks.proofs.FaultLemmas.{one_sort, never_named_lisp, never_numbered_lisp}
+use Rattle.format_checks.proofs.FaultLemmas.{one_sort, never_named_lisp, never_numbered_lisp, never_unread}
 use Rattle.format_checks.specs.FormatFaults.{Question, IsDifference, IsVerdict, HasVerdict, IsAccepted, fault_of}
 use Rattle.format_checks.specs.FormatFaults.{list_of}
 use Rattle.format_checks.specs.FormatFaults.{AreFaults}
@@ -82,6 +86,7 @@ of_numbers notation text a b x y = one_list_of percent (number_directives.Direct
 
 one_other : (language : Language) (text : List ℕ) (a b : List code_numbered.Numbered) → ListsOther language text a
     → ListsOther language text b → a ≡ b
+one_other ObjectiveC text a b x y = objc_lemmas.one_list text a b x y
 one_other Java text a b x y = one_of_java text a b x y
 one_other JavaPrintf text a b x y = one_of_java_printf text a b x y
 one_other CSharp text a b x y = one_of_csharp text a b x y
@@ -106,19 +111,20 @@ one_by None (Some notation) language text a b x y = of_numbers notation text a b
 one_by None None language text a b x y = one_other language text a b x y
 
 -- where a language is one of lisp_formats, which one it is
-lisp_found : (found : Option LispNotation) (Has : LispNotation → Type 0) → MatchOption found ⊥ Has
-    → (notation : LispNotation) × (found ≡ Some notation) × Has notation
-lisp_found None Has x = absurd x
-lisp_found (Some notation) Has x = (notation, refl, x)
+lisp_found : (found : Option LispNotation) (Other : Type 0) (Has : LispNotation → Type 0) → (Other → ⊥)
+    → MatchOption found Other Has → (notation : LispNotation) × (found ≡ Some notation) × Has notation
+lisp_found None Other Has none x = absurd (none x)
+lisp_found (Some notation) Other Has none x = (notation, refl, x)
 
 placed_found : (language : Language) (text : List ℕ) (asked : List code_placed.Kind) → ListsPlaced language text asked
     → (notation : LispNotation) × (lisp_of language ≡ Some notation) × lisp_formats.HasSignature notation text asked
 placed_found language text asked x =
-    lisp_found (lisp_of language) (λ notation. lisp_formats.HasSignature notation text asked) x
+    lisp_found (lisp_of language) ⊥ (λ notation. lisp_formats.HasSignature notation text asked) (λ none. none) x
 
-unread_found : (language : Language) (text : List ℕ) → IsUnread language text
+unread_found : (language : Language) (text : List ℕ) → is_objc language ≡ false → IsUnread language text
     → (notation : LispNotation) × (lisp_of language ≡ Some notation) × lisp_formats.IsUnread notation text
-unread_found language text x = lisp_found (lisp_of language) (λ notation. lisp_formats.IsUnread notation text) x
+unread_found language text other x = lisp_found (lisp_of language) (IsOtherUnread language text)
+    (λ notation. lisp_formats.IsUnread notation text) (never_unread language text other) x
 
 one_placed : (language : Language) (text : List ℕ) (a b : List code_placed.Kind) → ListsPlaced language text a
     → ListsPlaced language text b → a ≡ b
@@ -152,19 +158,33 @@ one_arguments language text (Numbered a) (Numbered b) x y =
 one_arguments language text (Placed a) b x y = placed_alone language text b a y x
 one_arguments language text a (Placed b) x y = sym (placed_alone language text a b x y)
 
--- a text that is not read has no arguments
-never_both : (language : Language) (text : List ℕ) (a : Asked) → Lists language text a → IsUnread language text → ⊥
-never_both language text (Named a) x unread =
-    let f = unread_found language text unread in
+never_both_lisp : (language : Language) (text : List ℕ) (a : Asked) → is_objc language ≡ false
+    → Lists language text a → IsUnread language text → ⊥
+never_both_lisp language text (Named a) other x unread =
+    let f = unread_found language text other unread in
     never_named_lisp language f.0 text a f.1 x
-never_both language text (Numbered a) x unread =
-    let f = unread_found language text unread in
+never_both_lisp language text (Numbered a) other x unread =
+    let f = unread_found language text other unread in
     never_numbered_lisp language f.0 text a f.1 x
-never_both language text (Placed a) x unread =
+never_both_lisp language text (Placed a) other x unread =
     let f = placed_found language text a x in
-    let g = unread_found language text unread in
+    let g = unread_found language text other unread in
     let same : g.0 ≡ f.0 = cc (f.1, g.1) in
     read_or_unread f.0 text a f.2 (subst (λ (n : LispNotation). lisp_formats.IsUnread n text) same g.2)
+
+never_both_objc : (language : Language) (text : List ℕ) (a : Asked) → is_objc language ≡ true
+    → Lists language text a → IsUnread language text → ⊥
+never_both_objc ObjectiveC text (Named a) is x unread = x
+never_both_objc ObjectiveC text (Numbered a) is x unread = objc_lemmas.read_or_unread text a x unread
+never_both_objc ObjectiveC text (Placed a) is x unread = x
+never_both_objc _ text a is x unread = absurd (cc is)
+
+-- a text that is not read has no arguments
+never_both : (language : Language) (text : List ℕ) (a : Asked) → Lists language text a → IsUnread language text → ⊥
+never_both language text a x unread = elim (cases_Bool (is_objc language)) [
+  | inl is ↦ never_both_objc language text a is x unread
+  | inr other ↦ never_both_lisp language text a other x unread
+]
 
 one_reading : (language : Language) (text : List ℕ) (r s : Reading) → IsReading language text r
     → IsReading language text s → r ≡ s

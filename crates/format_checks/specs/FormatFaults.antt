@@ -4,11 +4,11 @@ use Rattle.std.specs.Prelude.{None, Some}
 use Rattle.std.specs.List.{flat_map}
 use Rattle.format_arguments.specs.declared.Strictness.{Strictness}
 use Rattle.format_flags.specs.declared.languages.Language.{Language}
-use Rattle.format_flags.specs.declared.languages.Language.TheVariants.{Python, PythonBrace, Java, JavaPrintf, CSharp}
-use Rattle.format_flags.specs.declared.languages.Language.TheVariants.{JavaScript, Shell, Awk, Lua, ObjectPascal}
-use Rattle.format_flags.specs.declared.languages.Language.TheVariants.{Smalltalk, Qt, QtPlural, Kde, Tcl, Perl}
-use Rattle.format_flags.specs.declared.languages.Language.TheVariants.{Librep, KdeKuit, Boost, Scheme, Lisp}
-use Rattle.format_flags.specs.declared.languages.Language.TheVariants.{PerlBrace, Php, GccInternal, Ycp, Ruby}
+use Rattle.format_flags.specs.declared.languages.Language.TheVariants.{ObjectiveC, Python, PythonBrace, Java}
+use Rattle.format_flags.specs.declared.languages.Language.TheVariants.{JavaPrintf, CSharp, JavaScript, Shell, Awk, Lua}
+use Rattle.format_flags.specs.declared.languages.Language.TheVariants.{ObjectPascal, Smalltalk, Qt, QtPlural, Kde}
+use Rattle.format_flags.specs.declared.languages.Language.TheVariants.{Librep, KdeKuit, Boost, Scheme, Lisp, Tcl}
+use Rattle.format_flags.specs.declared.languages.Language.TheVariants.{Perl, PerlBrace, Php, GccInternal, Ycp, Ruby}
 use Rattle.format_checks.specs.declared.Difference.{Difference}
 use Rattle.format_checks.specs.declared.Difference.TheVariants.{Invalid, Arguments}
 use Rattle.format_checks.specs.declared.Difference.TheVariants as differences
@@ -53,7 +53,7 @@ flagged_questions e often language = if has e.flags language then questions e of
 -- the languages whose formats are checked
 abbrev pub checked : List Language
 checked =
-    Python ∷ PythonBrace ∷ Java ∷ JavaPrintf ∷ CSharp ∷ JavaScript ∷ Scheme ∷ Lisp ∷ Librep ∷ Ruby ∷ Shell ∷ Awk
+    ObjectiveC ∷ Python ∷ PythonBrace ∷ Java ∷ JavaPrintf ∷ CSharp ∷ JavaScript ∷ Scheme ∷ Lisp ∷ Librep ∷ Ruby ∷ Shell ∷ Awk
     ∷ Lua ∷ ObjectPascal ∷ Smalltalk ∷ Qt ∷ QtPlural ∷ Kde ∷ KdeKuit ∷ Boost ∷ Tcl ∷ Perl ∷ PerlBrace ∷ Php
     ∷ GccInternal ∷ Ycp ∷ []
 

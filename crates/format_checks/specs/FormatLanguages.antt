@@ -9,11 +9,11 @@ use Rattle.format_arguments.specs.Arguments.{Argument}
 use Rattle.numbered_arguments.specs.declared.Numbered as code_numbered
 use Rattle.numbered_arguments.specs.NumberedArguments as numbered_arguments
 use Rattle.format_flags.specs.declared.languages.Language.{Language}
-use Rattle.format_flags.specs.declared.languages.Language.TheVariants.{Python, PythonBrace, Java, JavaPrintf, CSharp}
-use Rattle.format_flags.specs.declared.languages.Language.TheVariants.{JavaScript, Shell, Awk, Lua, ObjectPascal}
-use Rattle.format_flags.specs.declared.languages.Language.TheVariants.{Smalltalk, Qt, QtPlural, Kde, Tcl, Perl}
-use Rattle.format_flags.specs.declared.languages.Language.TheVariants.{Librep, KdeKuit, Boost, Scheme, Lisp}
-use Rattle.format_flags.specs.declared.languages.Language.TheVariants.{PerlBrace, Php, GccInternal, Ycp, Ruby}
+use Rattle.format_flags.specs.declared.languages.Language.TheVariants.{ObjectiveC, Python, PythonBrace, Java}
+use Rattle.format_flags.specs.declared.languages.Language.TheVariants.{JavaPrintf, CSharp, JavaScript, Shell, Awk, Lua}
+use Rattle.format_flags.specs.declared.languages.Language.TheVariants.{ObjectPascal, Smalltalk, Qt, QtPlural, Kde}
+use Rattle.format_flags.specs.declared.languages.Language.TheVariants.{Librep, KdeKuit, Boost, Scheme, Lisp, Tcl}
+use Rattle.format_flags.specs.declared.languages.Language.TheVariants.{Perl, PerlBrace, Php, GccInternal, Ycp, Ruby}
 use Rattle.python_format.specs.Format as python
 use Rattle.python_brace_format.specs.BraceFormat as brace
 use Rattle.python_brace_format.specs.BraceAgreement as brace_agreement
@@ -29,6 +29,8 @@ use Rattle.script_formats.specs.declared.Notation.{Notation as ScriptNotation}
 use Rattle.script_formats.specs.declared.Notation.TheVariants as scripts
 use Rattle.script_formats.specs.ScriptFormat as script_formats
 use Rattle.script_formats.specs.ScriptAgreement as script_agreement
+use Rattle.objc_format.specs.declared.ObjcFault.TheVariants as objc_faults
+use Rattle.objc_format.specs.ObjcFormat as objc_format
 use Rattle.java_formats.specs.JavaFormat as java_formats
 use Rattle.java_printf_format.specs.PrintfFormat as java_printf
 use Rattle.csharp_format.specs.CSharpFormat as csharp
@@ -88,6 +90,7 @@ number_of _ = None
 
 -- another language
 abbrev pub ListsOther : Language → List ℕ → List code_numbered.Numbered → Type 0
+ListsOther ObjectiveC text asked = objc_format.HasSignature text asked
 ListsOther Java text asked = java_formats.HasSignature text asked
 ListsOther JavaPrintf text asked = java_printf.HasSignature text asked
 ListsOther CSharp text asked = csharp.HasSignature text asked
@@ -161,9 +164,19 @@ abbrev pub HasFault : Language → List ℕ → FormatFault → Type 0
 HasFault language text Invalid = (asked : Asked) → ¬ Lists language text asked
 HasFault language text Memory = Unit {0}
 
+abbrev pub is_objc : Language → Bool
+is_objc ObjectiveC = true
+is_objc _ = false
+
+-- of a language that is none of lisp_formats
+abbrev pub IsOtherUnread : Language → List ℕ → Type 0
+IsOtherUnread ObjectiveC text = objc_format.IsUnread text
+IsOtherUnread _ text = ⊥
+
 -- the text is not read here: it may be a format of the language
 abbrev pub IsUnread : Language → List ℕ → Type 0
-IsUnread language text = MatchOption (lisp_of language) ⊥ (λ notation. lisp_formats.IsUnread notation text)
+IsUnread language text = MatchOption (lisp_of language) (IsOtherUnread language text)
+    (λ notation. lisp_formats.IsUnread notation text)
 
 abbrev pub IsNoFormat : Language → List ℕ → Type 0
 IsNoFormat language text = ((asked : Asked) → ¬ Lists language text asked) × ¬ IsUnread language text
@@ -184,6 +197,12 @@ IsPlacedReading notation text (Format (Placed asked)) = lisp_formats.HasSignatur
 IsPlacedReading notation text (Format _) = ⊥
 IsPlacedReading notation text NoFormat = lisp_formats.HasFault notation text lisp_faults.Invalid
 IsPlacedReading notation text Unread = lisp_formats.IsUnread notation text
+
+abbrev pub IsObjcReading : List ℕ → Reading → Type 0
+IsObjcReading text (Format (Numbered asked)) = objc_format.HasSignature text asked
+IsObjcReading text (Format _) = ⊥
+IsObjcReading text NoFormat = objc_format.HasFault text objc_faults.Invalid
+IsObjcReading text Unread = objc_format.IsUnread text
 
 abbrev pub agree : Language → Asked → Asked → Strictness → Bool
 agree language (Named original) (Named translation) rule = named_agree language original translation rule

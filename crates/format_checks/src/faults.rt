@@ -104,6 +104,7 @@ fn add_language_faults(
 
 /// The languages whose formats are checked, in the order of their faults.
 const CHECKED: &[Language] = &[
+    Language::ObjectiveC,
     Language::Python,
     Language::PythonBrace,
     Language::Java,

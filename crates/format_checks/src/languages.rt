@@ -1,5 +1,5 @@
 //! Formats of each language: their arguments, and when two formats agree.
-ghost use Rattle.std.specs.Prelude.{◌≡◌, IfOk, IfErr, None, map};
+ghost use Rattle.std.specs.Prelude.{◌≡◌, IfOk, IfErr, None, false, map};
 ghost use Rattle.format_arguments.specs.ArgumentViews.{argument_view};
 ghost use Rattle.format_checks.specs.FormatLanguages as spec;
 ghost use Rattle.format_checks.specs.AskedViews.{asked_view, reading_view};
@@ -10,6 +10,7 @@ use lisp_formats::{Kind as Placed, LispFault, Notation as Lisps};
 use named_formats::Notation as Names;
 use numbered_arguments::Numbered;
 use numbered_formats::Notation as Numbers;
+use objc_format::ObjcFault;
 use script_formats::Notation as Scripts;
 use std::alloc::{AllocError, Global};
 
@@ -97,7 +98,13 @@ fn number_of(language: Language) -> Option<Numbers>
     }
 }
 
-/// The arguments of a format with numbers.
+fn is_objc(language: Language) -> bool
+    ensures { result ≡ spec.is_objc language }
+{
+    matches!(language, Language::ObjectiveC)
+}
+
+/// The arguments of a format with numbers, but of Objective-C.
 #[tactic(auto, using(crate::proofs::Failing::script, crate::proofs::Failing::number, crate::proofs::Failing::java, crate::proofs::Failing::java_printf, crate::proofs::Failing::csharp, crate::proofs::Failing::librep, crate::proofs::Failing::gcc_internal, crate::proofs::Failing::kuit, crate::proofs::Failing::php))]
 fn numbered_arguments(
     alloc: Global,
@@ -105,7 +112,7 @@ fn numbered_arguments(
     text: &[u8],
 ) -> Result<Vec<Numbered>, FormatFault>
     ensures ok { IfOk result (λ asked. spec.ListsNumbered language text.now asked.items) }
-    ensures err { IfErr result (λ fault. spec.FailsNumbered language text.now fault) }
+    ensures err { spec.is_objc language ≡ false → IfErr result (λ fault. spec.FailsNumbered language text.now fault) }
 {
     if let Some(notation) = script_of(language) {
         return script_formats::signature(alloc, notation, text);
@@ -125,11 +132,12 @@ fn numbered_arguments(
     }
 }
 
-/// The arguments of a format of the language, if it has names or numbers. No text is a format of a language that isn't
-/// checked yet.
+/// The arguments of a format of the language, if it has names or numbers and isn't Objective-C. No text is a format of
+/// a language that isn't checked yet.
 fn signature(alloc: Global, language: Language, text: &[u8]) -> Result<Asked<'_>, FormatFault>
     ensures ok { IfOk result (λ asked. spec.Lists language text.now (asked_view asked)) }
-    ensures err { spec.lisp_of language ≡ None → IfErr result (λ fault. spec.HasFault language text.now fault) }
+    ensures err { spec.lisp_of language ≡ None → spec.is_objc language ≡ false →
+        IfErr result (λ fault. spec.HasFault language text.now fault) }
 {
     if is_named(language) {
         Ok(Asked::Named(named_arguments(alloc, language, text)?))
@@ -138,9 +146,9 @@ fn signature(alloc: Global, language: Language, text: &[u8]) -> Result<Asked<'_>
     }
 }
 
-/// Reads a format that has names or numbers.
+/// Reads a format that has names or numbers and isn't one of Objective-C.
 fn read_other(alloc: Global, language: Language, text: &[u8]) -> Result<Reading<'_>, AllocError>
-    ensures { spec.lisp_of language ≡ None →
+    ensures { spec.lisp_of language ≡ None → spec.is_objc language ≡ false →
         IfOk result (λ reading. spec.IsReading language text.now (reading_view reading)) }
 {
     match signature(alloc, language, text) {
@@ -172,6 +180,18 @@ fn read_placed(alloc: Global, notation: Lisps, text: &[u8]) -> Result<Reading<'_
     }
 }
 
+/// Reads a format of Objective-C.
+fn read_objc(alloc: Global, text: &[u8]) -> Result<Reading<'_>, AllocError>
+    ensures { IfOk result (λ reading. spec.IsObjcReading text.now (reading_view reading)) }
+{
+    match objc_format::signature(alloc, text) {
+        Ok(asked) => Ok(Reading::Format(Asked::Numbered(asked))),
+        Err(ObjcFault::Invalid) => Ok(Reading::NoFormat),
+        Err(ObjcFault::Unread) => Ok(Reading::Unread),
+        Err(ObjcFault::Memory) => Err(AllocError),
+    }
+}
+
 /// Reads a text as a format of the language. The only error is a failed allocation.
 pub(crate) fn read(
     alloc: Global,
@@ -180,6 +200,9 @@ pub(crate) fn read(
 ) -> Result<Reading<'_>, AllocError>
     ensures { IfOk result (λ reading. spec.IsReading language text.now (reading_view reading)) }
 {
+    if is_objc(language) {
+        return read_objc(alloc, text);
+    }
     match lisp_of(language) {
         Some(notation) => read_placed(alloc, notation, text),
         None => read_other(alloc, language, text),
