@@ -53,8 +53,8 @@ flagged_questions e often language = if has e.flags language then questions e of
 -- the languages whose formats are checked
 abbrev pub checked : List Language
 checked =
-    ObjectiveC ∷ Python ∷ PythonBrace ∷ Java ∷ JavaPrintf ∷ CSharp ∷ JavaScript ∷ Scheme ∷ Lisp ∷ Librep ∷ Ruby ∷ Shell ∷ Awk
-    ∷ Lua ∷ ObjectPascal ∷ Smalltalk ∷ Qt ∷ QtPlural ∷ Kde ∷ KdeKuit ∷ Boost ∷ Tcl ∷ Perl ∷ PerlBrace ∷ Php
+    ObjectiveC ∷ Python ∷ PythonBrace ∷ Java ∷ JavaPrintf ∷ CSharp ∷ JavaScript ∷ Scheme ∷ Lisp ∷ Librep ∷ Ruby
+    ∷ Shell ∷ Awk ∷ Lua ∷ ObjectPascal ∷ Smalltalk ∷ Qt ∷ QtPlural ∷ Kde ∷ KdeKuit ∷ Boost ∷ Tcl ∷ Perl ∷ PerlBrace ∷ Php
     ∷ GccInternal ∷ Ycp ∷ []
 
 -- those of each language that the entry is flagged with
