@@ -1,4 +1,4 @@
-use Rattle.life.proofs.Common.{rules, ◌+◌, [], ◌∷◌, ◌++◌, ◌∙◌}
+use Rattle.life.proofs.Common.{rules, ◌+◌, [], ◌∷◌, ◌++◌, refl, ◌∙◌}
 use Rattle.life.proofs.Running.{does_next, stops_at}
 use Rattle.life.proofs.publish.do_commands.Goals as goal
 
