@@ -54,8 +54,8 @@ flagged_questions e often language = if has e.flags language then questions e of
 abbrev pub checked : List Language
 checked =
     ObjectiveC ∷ Python ∷ PythonBrace ∷ Java ∷ JavaPrintf ∷ CSharp ∷ JavaScript ∷ Scheme ∷ Lisp ∷ Librep ∷ Ruby
-    ∷ Shell ∷ Awk ∷ Lua ∷ ObjectPascal ∷ Smalltalk ∷ Qt ∷ QtPlural ∷ Kde ∷ KdeKuit ∷ Boost ∷ Tcl ∷ Perl ∷ PerlBrace ∷ Php
-    ∷ GccInternal ∷ Ycp ∷ []
+    ∷ Shell ∷ Awk ∷ Lua ∷ ObjectPascal ∷ Smalltalk ∷ Qt ∷ QtPlural ∷ Kde ∷ KdeKuit ∷ Boost ∷ Tcl ∷ Perl ∷ PerlBrace
+    ∷ Php ∷ GccInternal ∷ Ycp ∷ []
 
 -- those of each language that the entry is flagged with
 abbrev pub all_questions : Entry → List Bool → List Question
