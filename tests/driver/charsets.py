@@ -14,7 +14,8 @@ import tempfile
 from pathlib import Path
 
 SPECS = Path("crates/charsets/specs")
-ROWS_SPECS = [Path("crates") / crate / "specs" for crate in ("euc_rows", "big5_rows", "gb_rows")]
+ROWS_SPECS = [Path("crates") / crate / "specs"
+              for crate in ("euc_jp_rows", "euc_kr_rows", "big5_rows", "gb2312_rows", "gbk_rows")]
 CASES = re.compile(r"^(?P<word>names|table) (?P<variant>\w+) =(?P<value>.*?)(?=^(?:names|table) |\Z)", re.M | re.S)
 TABLE = re.compile(r"^(?P<name>\w+) =\n(?P<rows>(?: +0x.*\n)+)", re.M)
 PAIRS = re.compile(r"^pairs (?P<variant>\w+) first = (?P<grid>\w+) first$", re.M)

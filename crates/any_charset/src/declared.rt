@@ -1,7 +1,6 @@
 //! The charset that a text declares in its header.
 ghost use Rattle.std.specs.Prelude.{◌≡◌, ◌≤◌, ◌+◌, ◌++◌, IfOk, IfSome, MatchOption, codes, length};
-ghost use Rattle.any_charset.specs.Declaring.{Declares, DeclaresNone, NamesAt, NamesNone};
-ghost use Rattle.any_charset.specs.Declaring.{is_name_byte, name_len};
+ghost use Rattle.any_charset.specs.Declaring.{Declares, DeclaresNone, NamesAt, NamesNone, is_name_byte, name_len};
 
 use crate::front::leads_into_header;
 use charsets::{Charset, charset_of};

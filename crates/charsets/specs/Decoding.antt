@@ -7,7 +7,7 @@ use Rattle.charsets.specs.declared.reading.DecodeFault.{DecodeFault}
 use Rattle.charsets.specs.declared.reading.DecodeFault.TheVariants.{NoCharacter, Memory}
 use Rattle.charsets.specs.Table.{table}
 use Rattle.charset_grid.specs.Grid.{cell}
-use Rattle.euc_rows.specs.EucGrids.{euc_jp_8f}
+use Rattle.euc_jp_rows.specs.EucJpGrids.{euc_jp_8f}
 use Rattle.charsets.specs.Pairs.{pairs}
 
 -- ---- one character
@@ -22,17 +22,17 @@ is_before_two EucJp byte = byte == 0x8F
 is_before_two _ byte = false
 
 -- a character of this code point and this many bytes, none if the code point is 0
-abbrev pub sized : ℕ → ℕ → Option (ℕ × ℕ)
-sized code size = if code == 0 then None else Some (code, size)
+abbrev pub code_with_size : ℕ → ℕ → Option (ℕ × ℕ)
+code_with_size code size = if code == 0 then None else Some (code, size)
 
 -- the character that the byte 8F and the first two of these bytes are
 abbrev pub of_three : List ℕ → Option (ℕ × ℕ)
-of_three (second ∷ third ∷ bytes) = sized (cell euc_jp_8f second third) 3
+of_three (second ∷ third ∷ bytes) = code_with_size (cell euc_jp_8f second third) 3
 of_three _ = None
 
 -- the character that a first byte and the first of these bytes are
 abbrev pub of_two : Charset → ℕ → List ℕ → Option (ℕ × ℕ)
-of_two charset first (second ∷ bytes) = sized (cell (pairs charset first) first second) 2
+of_two charset first (second ∷ bytes) = code_with_size (cell (pairs charset first) first second) 2
 of_two charset first [] = None
 
 abbrev pub of_several : Charset → ℕ → List ℕ → Option (ℕ × ℕ)

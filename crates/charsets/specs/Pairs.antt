@@ -5,9 +5,11 @@ use Rattle.std.specs.Prelude.{ℕ, []}
 use Rattle.charsets.specs.declared.kinds.Charset.{Charset}
 use Rattle.charsets.specs.declared.kinds.Charset.TheVariants.{EucJp, EucKr, Big5, Gb2312, Gbk}
 use Rattle.charset_grid.specs.Grid.{Cells}
-use Rattle.euc_rows.specs.EucGrids.{euc_jp, euc_kr}
+use Rattle.euc_jp_rows.specs.EucJpGrids.{euc_jp}
+use Rattle.euc_kr_rows.specs.EucKrGrids.{euc_kr}
 use Rattle.big5_rows.specs.Big5Grids.{big5}
-use Rattle.gb_rows.specs.GbGrids.{gb2312, gbk}
+use Rattle.gb2312_rows.specs.Gb2312Grids.{gb2312}
+use Rattle.gbk_rows.specs.GbkGrids.{gbk}
 
 -- the cells among whose rows is that of this first byte, if it has one; there are none in charsets of single
 -- bytes

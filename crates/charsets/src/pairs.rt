@@ -6,8 +6,10 @@ ghost use Rattle.charsets.specs.Pairs.{pairs};
 
 use crate::kinds::Charset;
 use big5_rows::big5;
-use euc_rows::{euc_jp, euc_kr};
-use gb_rows::{gb2312, gbk};
+use euc_jp_rows::euc_jp;
+use euc_kr_rows::euc_kr;
+use gb2312_rows::gb2312;
+use gbk_rows::gbk;
 
 /// The code point of two bytes, 0 if they are no character.
 pub(crate) fn code_of_two(charset: Charset, first: u8, second: u8) -> u16

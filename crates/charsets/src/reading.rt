@@ -1,14 +1,15 @@
 //! Decoding.
 ghost use Rattle.std.specs.Prelude.{◌≡◌, ◌<◌, ◌≤◌, IfSome, MatchResult, length};
 ghost use Rattle.std.specs.String.{string_bytes};
-ghost use Rattle.charsets.specs.Decoding.{IsDecoded, IsUnmapped, front, is_before_two, of_three, of_two, sized};
+ghost use Rattle.charsets.specs.Decoding.{IsDecoded, IsUnmapped, front, is_before_two, of_three, of_two};
+ghost use Rattle.charsets.specs.Decoding.{code_with_size};
 ghost use Rattle.std.specs.Char.{IsScalar};
 ghost use Rattle.charsets.specs.declared.reading.DecodeFault.TheVariants.{Memory};
 
 use crate::kinds::Charset;
 use crate::pairs::code_of_two;
 use crate::tables::table;
-use euc_rows::euc_jp_8f;
+use euc_jp_rows::euc_jp_8f;
 use std::alloc::{AllocError, Allocator};
 use thiserror::Error;
 
@@ -35,7 +36,7 @@ impl From<AllocError> for DecodeFault {
 /// The character of a code point, which isn't one if it is 0, and the size of its run of bytes.
 fn sized(code: u16, size: usize) -> Option<(char, usize)>
     requires { IsScalar code }
-    ensures { result ≡ sized code size }
+    ensures { result ≡ code_with_size code size }
 {
     if code == 0 {
         return None;

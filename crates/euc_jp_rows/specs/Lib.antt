@@ -1,0 +1,3 @@
+pub mod EucJpRows
+pub mod EucJp8fRows
+pub mod EucJpGrids

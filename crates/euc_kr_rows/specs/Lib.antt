@@ -1,0 +1,2 @@
+pub mod EucKrRows
+pub mod EucKrGrids

@@ -1,7 +1,0 @@
-use Rattle.std.proofs.Common.{refl}
-use Rattle.euc_rows.specs.EucJpRows.{euc_jp_8e}
-use Rattle.euc_rows.proofs.rows.euc_jp_8e.rows.Goals as goal
-
-pub returns : goal.returns
-unfolding euc_jp_8e
-returns c = refl

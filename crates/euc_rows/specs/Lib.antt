@@ -1,4 +1,0 @@
-pub mod EucJpRows
-pub mod EucJp8fRows
-pub mod EucKrRows
-pub mod EucGrids

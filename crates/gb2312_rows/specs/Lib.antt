@@ -1,0 +1,2 @@
+pub mod Gb2312Rows
+pub mod Gb2312Grids

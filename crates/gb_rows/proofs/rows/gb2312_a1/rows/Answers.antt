@@ -1,7 +1,0 @@
-use Rattle.std.proofs.Common.{refl}
-use Rattle.gb_rows.specs.Gb2312Rows.{gb2312_a1}
-use Rattle.gb_rows.proofs.rows.gb2312_a1.rows.Goals as goal
-
-pub returns : goal.returns
-unfolding gb2312_a1
-returns c = refl

@@ -1,3 +1,0 @@
-pub mod Gb2312Rows
-pub mod GbkRows
-pub mod GbGrids

@@ -1,7 +1,0 @@
-//! The characters of two bytes in GB2312 and GBK.
-#![tactic(auto)]
-
-mod grids;
-mod rows;
-
-pub use grids::{gb2312, gbk};

@@ -1,0 +1,2 @@
+pub mod GbkRows
+pub mod GbkGrids

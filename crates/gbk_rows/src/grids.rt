@@ -1,0 +1,48 @@
+//! The characters of two bytes in each charset. Written by tools/make_charsets.
+ghost use Rattle.std.specs.Prelude.{◌≡◌};
+ghost use Rattle.std.specs.Char.{IsScalar};
+ghost use Rattle.charset_grid.specs.Grid.{cell};
+ghost use Rattle.charset_grid.specs.GridOf.{grid_of};
+ghost use Rattle.gbk_rows.specs.GbkGrids.{gbk};
+
+use crate::rows::{gbk_81, gbk_a8, gbk_d1, gbk_f7};
+use charset_grid::Grid;
+
+/// The characters of two bytes in GBK, among whose rows is that of this first byte if it has one.
+fn grid_of_gbk(first: u8) -> Grid
+    ensures { grid_of result ≡ gbk first }
+{
+    if first < 0xA8 {
+        Grid {
+            first_row: 0x81,
+            first_column: 0x40,
+            rows: gbk_81::rows(),
+        }
+    } else if first < 0xD1 {
+        Grid {
+            first_row: 0xA8,
+            first_column: 0x40,
+            rows: gbk_a8::rows(),
+        }
+    } else if first < 0xF7 {
+        Grid {
+            first_row: 0xD1,
+            first_column: 0x40,
+            rows: gbk_d1::rows(),
+        }
+    } else {
+        Grid {
+            first_row: 0xF7,
+            first_column: 0x40,
+            rows: gbk_f7::rows(),
+        }
+    }
+}
+
+/// The code point of two bytes in GBK, 0 if they are no character.
+pub fn gbk(first: u8, second: u8) -> u16
+    ensures value { result ≡ cell (gbk first) first second }
+    ensures character { IsScalar result }
+{
+    grid_of_gbk(first).cell(first, second)
+}
