@@ -48,6 +48,7 @@ static const struct language {
     {KOB_PERL_BRACE_FORMAT, "perl-brace-format", "Perl brace ", NULL, NULL},
     {KOB_PHP_FORMAT, "php-format", "PHP ", NULL, NULL},
     {KOB_GCC_INTERNAL_FORMAT, "gcc-internal-format", "GCC internal ", NULL, NULL},
+    {KOB_GFC_INTERNAL_FORMAT, "gfc-internal-format", "GFC internal ", NULL, NULL},
     {KOB_YCP_FORMAT, "ycp-format", "YCP ", NULL, NULL},
 };
 enum { LANGUAGES = sizeof languages / sizeof *languages };

@@ -57,6 +57,9 @@ OBJC_FAULTS = ("%", "%y", "%D", "%0$@", "%3$@", "%hhl", "%*0$d", "%1$", "%\u00e9
 GCC = ("%s", "%s", "%d", "%d", "%ld", "%lld", "%wu", "%x", "%c", "%p", "%qD", "%J", "%+#T", "%E", "%H", "%P", "%m", "%m", "%%", "%<", "%>",
        "%.5s", "%.*s", "%1$s", "%1$s", "%2$d", "%2$.*1$s", "%4294967297$s")  # fmt: skip
 GCC_FAULTS = ("%", "%y", "%X", "%5d", "%llld", "%lwd", "%qqd", "%0$s", "%1$m", "%q%", "%.s", "%.5d", "%1$.*1$s", "%2$.*s", "%1$", "%\u00e9")
+GFC = ("%s", "%s", "%d", "%i", "%u", "%ld", "%li", "%lu", "%c", "%L", "%C", "%C", "%%", "%1$s", "%1$s", "%2$d", "%2$C", "%1$C", "%3$ld",
+       "%4294967297$s")  # fmt: skip
+GFC_FAULTS = ("%", "%y", "%x", "%5d", "%lld", "%lc", "%l", "%0$s", "%1$%", "%4$s", "%1$", "%\u00e9")
 SCHEME = ("~a", "~s", "~d", "~d", "~va", "~10,'0d", "~c", "~65c", "~f", "~i", "~p", "~:p", "~%", "~~", "~,,'0t", "~y", "~,,,va", "~v%")
 SCHEME_FAULTS = ("~", "~z", "~-a", "~'", "~'xa", "~5p", "~)", "~w", "~,'xt", "~1,2%", "~\u00e9")
 LISP = ("~a", "~S", "~d", "~d", "~va", "~10,'0d", "~c", "~f", "~$", "~p", "~:p", "~%", "~~", "~2,3t", "~w", "~5i", "~_", "~v,'xx")
@@ -113,6 +116,7 @@ OTHERS = {
     "java-format": (JAVA, JAVA_FAULTS),
     "java-printf-format": (FORMATTER, FORMATTER_FAULTS),
     "gcc-internal-format": (GCC, GCC_FAULTS),
+    "gfc-internal-format": (GFC, GFC_FAULTS),
     "objc-format": (OBJC, OBJC_FAULTS),
     "scheme-format": (SCHEME, SCHEME_FAULTS),
     "lisp-format": (LISP, LISP_FAULTS),

@@ -87,6 +87,9 @@ fault 'Objective-C, another kind' objc-format '%@' '%s' "$differ"
 fault 'Objective-C, no conversion' objc-format '%@' '%y' "'msgstr' is not a valid Objective C format string, unlike 'msgid'."
 fault 'GCC, another kind' gcc-internal-format '%qD' '%qT' "$differ"
 fault 'GCC, no conversion' gcc-internal-format '%d' '%y' "'msgstr' is not a valid GCC internal format string, unlike 'msgid'."
+fault 'GNU Fortran, another kind' gfc-internal-format '%s %C' '%L %C' "$differ"
+fault 'GNU Fortran, no current locus' gfc-internal-format '%C %s' '%s' "$differ"
+fault 'GNU Fortran, a gap' gfc-internal-format '%s' '%2$s' "'msgstr' is not a valid GFC internal format string, unlike 'msgid'."
 fault 'Scheme, any object' scheme-format '~d' '~a' "$differ"
 fault 'Scheme, no conversion' scheme-format '~d' '~z' "'msgstr' is not a valid Scheme format string, unlike 'msgid'."
 fault 'Lisp, one more' lisp-format '~a' '~a ~a' "$differ"
@@ -158,6 +161,7 @@ served 'no fault, Ruby' ours ruby-format '%<a>d %{b}' '%<b>s %5<a>d' -c
 served 'no fault, Objective-C' ours objc-format '%@ %ld' '%2$ld: %1$@' -c
 served 'a size before n' 'GNU\t1\tobjc-format that is not read here' objc-format '%n' '%ln' -c
 served 'no fault, GCC' ours gcc-internal-format '%qD %m' '%m %J' -c
+served 'no fault, GNU Fortran' ours gfc-internal-format '%s at %C: %ld' '%C: %2$s, %3$ld' -c
 served 'no fault, Scheme' ours scheme-format '~a ~d~:p' '~s, ~x' -c
 served 'no fault, Lisp' ours lisp-format "~10,'0d ~a" '~d ~w' -c
 served 'a loop of Scheme' 'GNU\t0\tscheme-format that is not read here' scheme-format '~{~a~}' '~{~s~}' -c

@@ -6,7 +6,7 @@ use Rattle.format_arguments.specs.declared.FormatFault.TheVariants.{Invalid, Mem
 use Rattle.format_flags.specs.declared.languages.Language.{Language}
 use Rattle.format_flags.specs.declared.languages.Language.TheVariants.{Python, PythonBrace, Shell, PerlBrace}
 use Rattle.format_flags.specs.declared.languages.Language.TheVariants.{Java, JavaPrintf, CSharp, Librep, KdeKuit, Php}
-use Rattle.format_flags.specs.declared.languages.Language.TheVariants.{GccInternal, Ruby}
+use Rattle.format_flags.specs.declared.languages.Language.TheVariants.{GccInternal, GfcInternal, Ruby}
 use Rattle.python_format.specs.Format as python_format
 use Rattle.python_brace_format.specs.BraceFormat as brace_format
 use Rattle.php_format.specs.PhpFormat as php_format
@@ -23,6 +23,7 @@ use Rattle.csharp_format.specs.CSharpFormat as csharp_format
 use Rattle.librep_format.specs.LibrepFormat as librep_format
 use Rattle.kuit_formats.specs.KuitFormat as kuit_formats
 use Rattle.gcc_internal_format.specs.GccFormat as gcc_format
+use Rattle.gfc_internal_format.specs.GfcFormat as gfc_format
 use Rattle.format_checks.specs.FormatLanguages.{FailsNamed, FailsNumbered, ListsOther, number_of, script_of}
 
 pub python : (text : List ℕ) (fault : FormatFault) → python_format.HasFault text fault → FailsNamed Python text fault
@@ -80,6 +81,11 @@ pub gcc_internal : (text : List ℕ) (fault : FormatFault) → gcc_format.HasFau
     → FailsNumbered GccInternal text fault
 gcc_internal text Invalid none = none
 gcc_internal text Memory none = none
+
+pub gfc_internal : (text : List ℕ) (fault : FormatFault) → gfc_format.HasFault text fault
+    → FailsNumbered GfcInternal text fault
+gfc_internal text Invalid none = none
+gfc_internal text Memory none = none
 
 pub script : (language : Language) (notation : ScriptNotation) (text : List ℕ) (fault : FormatFault)
     → script_of language ≡ Some notation → script_formats.HasFault notation text fault

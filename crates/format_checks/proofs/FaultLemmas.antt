@@ -26,9 +26,8 @@ use Rattle.format_checks.specs.FormatLanguages.{is_objc, IsOtherUnread, IsObjcRe
 use Rattle.format_flags.specs.FormatFlags.{has}
 use Rattle.format_checks.specs.FlaggedEntries.{Entry, original, rule_for}
 use Rattle.format_checks.specs.FormatFaults.{Question, question, questions_from, questions, flagged_questions}
-use Rattle.format_checks.specs.FormatFaults.{checked, all_questions}
-use Rattle.format_checks.specs.FormatFaults.{IsVerdict, HasVerdict}
-use Rattle.format_checks.specs.FormatFaults.{fault_of, list_of, AreFaults, AddsFaults}
+use Rattle.format_checks.specs.FormatFaults.{checked_languages, all_questions, IsVerdict, HasVerdict, fault_of, list_of}
+use Rattle.format_checks.specs.FormatFaults.{AreFaults, AddsFaults}
 
 -- ---- lists of faults
 
@@ -66,23 +65,25 @@ adds_flagged line e often language a b is adds = rw is adds
 -- ---- language by language
 
 pub adds_language : (line : ℕ) (e : Entry) (often : List Bool) (index : ℕ) (a b c : List Fault)
-    → index < length checked → AddsFaults line (flat_map (flagged_questions e often) (take index checked)) a b
-    → AddsFaults line (flagged_questions e often (get_or checked index ObjectiveC)) b c
-    → AddsFaults line (flat_map (flagged_questions e often) (take (index + 1) checked)) a c
+    → index < length checked_languages → AddsFaults line
+    (flat_map (flagged_questions e often) (take index checked_languages)) a b
+    → AddsFaults line (flagged_questions e often (get_or checked_languages index ObjectiveC)) b c
+    → AddsFaults line (flat_map (flagged_questions e often) (take (index + 1) checked_languages)) a c
 adds_language line e often index a b c lt so_far more =
     let asks = flagged_questions e often in
-    let language = get_or checked index ObjectiveC in
-    let cut = ap (flat_map asks) (take_more checked index ObjectiveC lt) in
-    let joined = flat_map_more asks [] (take index checked) language in
+    let language = get_or checked_languages index ObjectiveC in
+    let cut = ap (flat_map asks) (take_more checked_languages index ObjectiveC lt) in
+    let joined = flat_map_more asks [] (take index checked_languages) language in
     subst (λ (qs : List Question). AddsFaults line qs a c) (joined ∙ sym cut)
-    (adds_both line (flat_map asks (take index checked)) (asks language) a b c so_far more)
+    (adds_both line (flat_map asks (take index checked_languages)) (asks language) a b c so_far more)
 
-pub adds_all : (line : ℕ) (e : Entry) (often : List Bool) (index : ℕ) (a b : List Fault) → length checked ≤ index
-    → AddsFaults line (flat_map (flagged_questions e often) (take index checked)) a b
+pub adds_all : (line : ℕ) (e : Entry) (often : List Bool) (index : ℕ) (a b : List Fault)
+    → length checked_languages ≤ index
+    → AddsFaults line (flat_map (flagged_questions e often) (take index checked_languages)) a b
     → AddsFaults line (all_questions e often) a b
 adds_all line e often index a b le so_far =
     subst (λ (ls : List Language). AddsFaults line (flat_map (flagged_questions e often) ls) a b)
-    (take_all index checked le) so_far
+    (take_all index checked_languages le) so_far
 
 -- ---- form by form
 

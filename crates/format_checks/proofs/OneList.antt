@@ -1,6 +1,6 @@
 -- There is one list of faults.
-use Rattle.std.proofs.Common.{◌≡◌, ℕ, Bool, true, false, List, [], ◌∷◌, ◌++◌, Option, None, Some, refl, sym}
-use Rattle.std.proofs.Common.{ap, subst, ◌∙◌}
+use Rattle.std.proofs.Common.{◌≡◌, ℕ, Bool, true, false, List, [], ◌∷◌, ◌++◌, Option, None, Some, refl, sym, ap, subst}
+use Rattle.std.proofs.Common.{◌∙◌, inl, inr}
 use Rattle.std.specs.Prelude.{◌↔◌, MatchOption}
 use Rattle.std.specs.List.{AllByRecursion}
 use Rattle.format_arguments.specs.declared.Strictness.{Strictness}
@@ -21,8 +21,7 @@ use Rattle.php_format.proofs.PhpDirectiveLemmas as php_lemmas
 use Rattle.format_flags.specs.declared.languages.Language.{Language}
 use Rattle.format_flags.specs.declared.languages.Language.TheVariants.{Python, PythonBrace, Shell, PerlBrace, Php}
 use Rattle.format_flags.specs.declared.languages.Language.TheVariants.{Java, JavaPrintf, CSharp, Librep, KdeKuit}
-use Rattle.format_flags.specs.declared.languages.Language.TheVariants.{GccInternal, ObjectiveC, Ruby}
-use Rattle.std.proofs.Common.{inl, inr}
+use Rattle.format_flags.specs.declared.languages.Language.TheVariants.{GccInternal, GfcInternal, ObjectiveC, Ruby}
 use Rattle.std.proofs.lemmas.Bool.{cases_Bool}
 use Rattle.named_formats.specs.declared.Notation.{Notation as Names}
 use Rattle.named_formats.specs.declared.Notation.TheVariants as names
@@ -46,6 +45,7 @@ use Rattle.csharp_format.proofs.CSharpTextLemmas.{one_list as one_of_csharp}
 use Rattle.ruby_format.proofs.RubyTextLemmas.{one_list as one_of_ruby}
 use Rattle.librep_format.proofs.LibrepTextLemmas.{one_list as one_of_librep}
 use Rattle.gcc_internal_format.proofs.GccTextLemmas.{one_of_gcc}
+use Rattle.gfc_internal_format.proofs.GfcTextLemmas.{one_list as one_of_gfc}
 use Rattle.format_checks.specs.declared.Difference.{Difference}
 use Rattle.format_checks.specs.declared.Difference.TheVariants.{Invalid, Arguments}
 use Rattle.format_checks.specs.declared.Difference.TheVariants as differences
@@ -55,13 +55,11 @@ use Rattle.lisp_formats.specs.declared.Notation.{Notation as LispNotation}
 use Rattle.lisp_formats.specs.LispFormat as lisp_formats
 use Rattle.lisp_formats.proofs.LispTextLemmas.{one_list as one_of_lisp, read_or_unread}
 use Rattle.format_checks.specs.FormatLanguages.{Asked, Named, Numbered, Placed, Lists, agree, script_of, number_of}
-use Rattle.format_checks.specs.FormatLanguages.{ListsNamed, ListsOther, ListsPlaced, lisp_of, IsUnread}
-use Rattle.format_checks.specs.FormatLanguages.{is_objc, IsOtherUnread}
-use Rattle.format_checks.specs.FormatLanguages.{Reading, Format, NoFormat, Unread, IsReading}
+use Rattle.format_checks.specs.FormatLanguages.{ListsNamed, ListsOther, ListsPlaced, lisp_of, IsUnread, is_objc}
+use Rattle.format_checks.specs.FormatLanguages.{IsOtherUnread, Reading, Format, NoFormat, Unread, IsReading}
 use Rattle.format_checks.proofs.FaultLemmas.{one_sort, never_named_lisp, never_numbered_lisp, never_unread}
 use Rattle.format_checks.specs.FormatFaults.{Question, IsDifference, IsVerdict, HasVerdict, IsAccepted, fault_of}
-use Rattle.format_checks.specs.FormatFaults.{list_of}
-use Rattle.format_checks.specs.FormatFaults.{AreFaults}
+use Rattle.format_checks.specs.FormatFaults.{list_of, AreFaults}
 
 of_names : (notation : Names) (text : List ℕ) (a b : List Argument) → named_formats.HasSignature notation text a
     → named_formats.HasSignature notation text b → a ≡ b
@@ -95,6 +93,7 @@ one_other KdeKuit text a b x y = of_numbers numbers.Kde text a b x.1 y.1
 one_other Php text a b x y =
     one_list_of percent php.DirectiveAt php_lemmas.are_directives requests_of php_format.fits text a b x y
 one_other GccInternal text a b x y = one_of_gcc text a b x y
+one_other GfcInternal text a b x y = one_of_gfc text a b x y
 one_other _ text a b x y = absurd x
 
 -- by the notation of the language, if it has one in script_formats or in numbered_formats

@@ -9,6 +9,7 @@ use Rattle.format_flags.specs.declared.languages.Language.TheVariants.{JavaPrint
 use Rattle.format_flags.specs.declared.languages.Language.TheVariants.{ObjectPascal, Smalltalk, Qt, QtPlural, Kde}
 use Rattle.format_flags.specs.declared.languages.Language.TheVariants.{Librep, KdeKuit, Boost, Scheme, Lisp, Tcl}
 use Rattle.format_flags.specs.declared.languages.Language.TheVariants.{Perl, PerlBrace, Php, GccInternal, Ycp, Ruby}
+use Rattle.format_flags.specs.declared.languages.Language.TheVariants.{GfcInternal}
 use Rattle.format_checks.specs.declared.Difference.{Difference}
 use Rattle.format_checks.specs.declared.Difference.TheVariants.{Invalid, Arguments}
 use Rattle.format_checks.specs.declared.Difference.TheVariants as differences
@@ -51,15 +52,15 @@ abbrev pub flagged_questions : Entry → List Bool → Language → List Questio
 flagged_questions e often language = if has e.flags language then questions e often language else []
 
 -- the languages whose formats are checked
-abbrev pub checked : List Language
-checked =
+abbrev pub checked_languages : List Language
+checked_languages =
     ObjectiveC ∷ Python ∷ PythonBrace ∷ Java ∷ JavaPrintf ∷ CSharp ∷ JavaScript ∷ Scheme ∷ Lisp ∷ Librep ∷ Ruby
     ∷ Shell ∷ Awk ∷ Lua ∷ ObjectPascal ∷ Smalltalk ∷ Qt ∷ QtPlural ∷ Kde ∷ KdeKuit ∷ Boost ∷ Tcl ∷ Perl ∷ PerlBrace
-    ∷ Php ∷ GccInternal ∷ Ycp ∷ []
+    ∷ Php ∷ GccInternal ∷ GfcInternal ∷ Ycp ∷ []
 
 -- those of each language that the entry is flagged with
 abbrev pub all_questions : Entry → List Bool → List Question
-all_questions e often = flat_map (flagged_questions e often) checked
+all_questions e often = flat_map (flagged_questions e often) checked_languages
 
 -- ---- what is wrong
 

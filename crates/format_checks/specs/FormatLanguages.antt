@@ -14,6 +14,7 @@ use Rattle.format_flags.specs.declared.languages.Language.TheVariants.{JavaPrint
 use Rattle.format_flags.specs.declared.languages.Language.TheVariants.{ObjectPascal, Smalltalk, Qt, QtPlural, Kde}
 use Rattle.format_flags.specs.declared.languages.Language.TheVariants.{Librep, KdeKuit, Boost, Scheme, Lisp, Tcl}
 use Rattle.format_flags.specs.declared.languages.Language.TheVariants.{Perl, PerlBrace, Php, GccInternal, Ycp, Ruby}
+use Rattle.format_flags.specs.declared.languages.Language.TheVariants.{GfcInternal}
 use Rattle.python_format.specs.Format as python
 use Rattle.python_brace_format.specs.BraceFormat as brace
 use Rattle.python_brace_format.specs.BraceAgreement as brace_agreement
@@ -37,6 +38,7 @@ use Rattle.csharp_format.specs.CSharpFormat as csharp
 use Rattle.librep_format.specs.LibrepFormat as librep
 use Rattle.kuit_formats.specs.KuitFormat as kuit
 use Rattle.gcc_internal_format.specs.GccFormat as gcc_internal
+use Rattle.gfc_internal_format.specs.GfcFormat as gfc_internal
 use Rattle.csharp_format.specs.CSharpAgreement as csharp_agreement
 use Rattle.lisp_formats.specs.declared.Kind as code_placed
 use Rattle.lisp_formats.specs.declared.LispFault.TheVariants as lisp_faults
@@ -98,6 +100,7 @@ ListsOther Librep text asked = librep.HasSignature text asked
 ListsOther KdeKuit text asked = kuit.HasSignature text asked
 ListsOther Php text asked = php.HasSignature text asked
 ListsOther GccInternal text asked = gcc_internal.HasSignature text asked
+ListsOther GfcInternal text asked = gfc_internal.HasSignature text asked
 ListsOther _ text asked = ⊥
 
 -- the text is a format of the language that asks for these arguments
@@ -114,6 +117,7 @@ FailsNumbered language text Memory = Unit {0}
 abbrev pub others_agree : Language → List code_numbered.Numbered → List code_numbered.Numbered → Strictness → Bool
 others_agree CSharp original translation rule = csharp_agreement.agree original translation rule
 others_agree GccInternal original translation rule = gcc_internal.agree original translation rule
+others_agree GfcInternal original translation rule = gfc_internal.agree original translation rule
 others_agree KdeKuit original translation rule = number_agreement.agree numbers.Kde original translation rule
 others_agree _ original translation rule = numbered_arguments.agree original translation rule
 

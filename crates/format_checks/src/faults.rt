@@ -130,6 +130,7 @@ const CHECKED: &[Language] = &[
     Language::PerlBrace,
     Language::Php,
     Language::GccInternal,
+    Language::GfcInternal,
     Language::Ycp,
 ];
 

@@ -105,7 +105,7 @@ fn is_objc(language: Language) -> bool
 }
 
 /// The arguments of a format with numbers, but of Objective-C.
-#[tactic(auto, using(crate::proofs::Failing::script, crate::proofs::Failing::number, crate::proofs::Failing::java, crate::proofs::Failing::java_printf, crate::proofs::Failing::csharp, crate::proofs::Failing::librep, crate::proofs::Failing::gcc_internal, crate::proofs::Failing::kuit, crate::proofs::Failing::php))]
+#[tactic(auto, using(crate::proofs::Failing::script, crate::proofs::Failing::number, crate::proofs::Failing::java, crate::proofs::Failing::java_printf, crate::proofs::Failing::csharp, crate::proofs::Failing::librep, crate::proofs::Failing::gcc_internal, crate::proofs::Failing::gfc_internal, crate::proofs::Failing::kuit, crate::proofs::Failing::php))]
 fn numbered_arguments(
     alloc: Global,
     language: Language,
@@ -128,6 +128,7 @@ fn numbered_arguments(
         Language::KdeKuit => kuit_formats::signature(alloc, text),
         Language::Php => php_format::signature(alloc, text),
         Language::GccInternal => gcc_internal_format::signature(alloc, text),
+        Language::GfcInternal => gfc_internal_format::signature(alloc, text),
         _ => Err(FormatFault::Invalid),
     }
 }
@@ -247,6 +248,7 @@ fn numbered_agree(
     match language {
         Language::CSharp => Ok(csharp_format::agrees(original, translation, rule)),
         Language::GccInternal => gcc_internal_format::agrees(alloc, original, translation, rule),
+        Language::GfcInternal => gfc_internal_format::agrees(alloc, original, translation, rule),
         Language::KdeKuit => {
             numbered_formats::agrees(alloc, Numbers::Kde, original, translation, rule)
         }

@@ -1,0 +1,5 @@
+pub mod GfcOperandLemmas
+pub mod GfcDirectiveLemmas
+pub mod GfcNumberLemmas
+pub mod GfcCallLemmas
+pub mod GfcTextLemmas

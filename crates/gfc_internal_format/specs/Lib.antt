@@ -1,0 +1,5 @@
+pub mod GfcOperands
+pub mod GfcDirectives
+pub mod GfcNumbers
+pub mod GfcArguments
+pub mod GfcFormat
