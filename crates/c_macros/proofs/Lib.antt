@@ -1,4 +1,3 @@
-pub mod DigitLemmas
 pub mod MacroLemmas
 pub mod MacroDirectiveLemmas
 pub mod ListLemmas

@@ -100,18 +100,18 @@ number_again asked kinds i r so_far is at = record {
   );
 }
 
-pub row_next : (asked : List Request) (i place : ℕ) (d : Request) (kinds new : List Kind) → i < length asked
-    → ByNumber (take i asked) kinds → (get_or asked i d).number ≡ Some (place + 1) → place ≡ length kinds
+pub row_next : (asked : List Request) (i index : ℕ) (d : Request) (kinds new : List Kind) → i < length asked
+    → ByNumber (take i asked) kinds → (get_or asked i d).number ≡ Some (index + 1) → index ≡ length kinds
     → new ≡ kinds ++ (get_or asked i d).kind ∷ [] → ByNumber (take (i + 1) asked) new
-row_next asked i place d kinds new lt so_far is next e =
+row_next asked i index d kinds new lt so_far is next e =
     rw (take_more asked i d lt, e) (number_next (take i asked) kinds (get_or asked i d) so_far
     (is ∙ ap (λ (n : ℕ). Some (n + 1)) next))
 
-pub row_again : (asked : List Request) (i place : ℕ) (d : Request) (kinds : List Kind) → i < length asked
-    → ByNumber (take i asked) kinds → (get_or asked i d).number ≡ Some (place + 1)
-    → slice_get kinds place ≡ Some (get_or asked i d).kind → ByNumber (take (i + 1) asked) kinds
-row_again asked i place d kinds lt so_far is at =
-    rw (take_more asked i d lt) (number_again (take i asked) kinds place (get_or asked i d) so_far is at)
+pub row_again : (asked : List Request) (i index : ℕ) (d : Request) (kinds : List Kind) → i < length asked
+    → ByNumber (take i asked) kinds → (get_or asked i d).number ≡ Some (index + 1)
+    → slice_get kinds index ≡ Some (get_or asked i d).kind → ByNumber (take (i + 1) asked) kinds
+row_again asked i index d kinds lt so_far is at =
+    rw (take_more asked i d lt) (number_again (take i asked) kinds index (get_or asked i d) so_far is at)
 
 -- ---- what has no list
 
@@ -119,46 +119,46 @@ row_placed : (asked : List Request) (i : ℕ) (d : Request) (kinds : List Kind) 
     → ByNumber asked kinds → HasPlace kinds (get_or asked i d)
 row_placed asked i d kinds lt all = all.placed _ (Contains-get_or asked i d lt)
 
-pub no_place : (asked : List Request) (i : ℕ) (d : Request) (kinds : List Kind) → i < length asked
-    → ((place : ℕ) → (get_or asked i d).number ≡ Some (place + 1) → ⊥) → ByNumber asked kinds → ⊥
-no_place asked i d kinds lt none all =
+pub no_index : (asked : List Request) (i : ℕ) (d : Request) (kinds : List Kind) → i < length asked
+    → ((index : ℕ) → (get_or asked i d).number ≡ Some (index + 1) → ⊥) → ByNumber asked kinds → ⊥
+no_index asked i d kinds lt none all =
     let there = row_placed asked i d kinds lt all in
     none there.0 there.1
 
 -- two kinds at one index
-clash : (kinds : List Kind) (place : ℕ) (r q : Request) → HasPlace kinds r → HasPlace kinds q → r.number
-    ≡ Some (place + 1) → q.number ≡ Some (place + 1) → r.kind ≡ q.kind
-clash kinds place r q (i, e, at) (j, f, there) is also =
-    let i_is : i + 1 ≡ place + 1 = cc (e, is) in
-    let j_is : j + 1 ≡ place + 1 = cc (f, also) in
+clash : (kinds : List Kind) (index : ℕ) (r q : Request) → HasPlace kinds r → HasPlace kinds q → r.number
+    ≡ Some (index + 1) → q.number ≡ Some (index + 1) → r.kind ≡ q.kind
+clash kinds index r q (i, e, at) (j, f, there) is also =
+    let i_is : i + 1 ≡ index + 1 = cc (e, is) in
+    let j_is : j + 1 ≡ index + 1 = cc (f, also) in
     let same : i ≡ j = omega arith in
     cc (at, there, same)
 
 in_front : (asked : List Request) (i : ℕ) (r : Request) → Contains (take i asked) r → Contains asked r
 in_front asked i r c = rw (← take-append-drop i asked) (Contains-append_left (take i asked) (drop i asked) r c)
 
-clash_has_none : (asked : List Request) (i place : ℕ) (d : Request) (so_far kinds : List Kind) → i < length asked
-    → ByNumber (take i asked) so_far → (get_or asked i d).number ≡ Some (place + 1) → place < length so_far
-    → (slice_get so_far place ≡ Some (get_or asked i d).kind → ⊥) → ByNumber asked kinds → ⊥
-clash_has_none asked i place d so_far kinds lt front is within differs all =
-    let there = front.complete place within in
+clash_has_none : (asked : List Request) (i index : ℕ) (d : Request) (so_far kinds : List Kind) → i < length asked
+    → ByNumber (take i asked) so_far → (get_or asked i d).number ≡ Some (index + 1) → index < length so_far
+    → (slice_get so_far index ≡ Some (get_or asked i d).kind → ⊥) → ByNumber asked kinds → ⊥
+clash_has_none asked i index d so_far kinds lt front is within differs all =
+    let there = front.complete index within in
     let whole = in_front asked i there.0 there.1 in
-    let kinds_same : there.0.kind ≡ (get_or asked i d).kind = clash kinds place there.0 (get_or asked i d)
+    let kinds_same : there.0.kind ≡ (get_or asked i d).kind = clash kinds index there.0 (get_or asked i d)
     (all.placed there.0 whole) (row_placed asked i d kinds lt all) there.2 is in
     let old = front.placed there.0 there.1 in
-    let old_place : old.0 + 1 ≡ place + 1 = cc (old.1, there.2) in
-    let same : old.0 ≡ place = omega (arith, old_place) in
+    let old_place : old.0 + 1 ≡ index + 1 = cc (old.1, there.2) in
+    let same : old.0 ≡ index = omega (arith, old_place) in
     differs (rw (← same) (old.2 ∙ ap Some kinds_same))
 
 number_key : (r : Request) (n : ℕ) → r.number ≡ Some n → unwrap_or r.number 0 ≡ n
 number_key r n e = rw e refl
 
-gap_has_none : (asked : List Request) (i place : ℕ) (d : Request) (so_far kinds : List Kind) → i < length asked
-    → IsRising asked → ByNumber (take i asked) so_far → (get_or asked i d).number ≡ Some (place + 1)
-    → length so_far < place → ByNumber asked kinds → ⊥
-gap_has_none asked i place d so_far kinds lt rising front is past all =
+gap_has_none : (asked : List Request) (i index : ℕ) (d : Request) (so_far kinds : List Kind) → i < length asked
+    → IsRising asked → ByNumber (take i asked) so_far → (get_or asked i d).number ≡ Some (index + 1)
+    → length so_far < index → ByNumber asked kinds → ⊥
+gap_has_none asked i index d so_far kinds lt rising front is past all =
     let placed = row_placed asked i d kinds lt all in
-    let at : placed.0 + 1 ≡ place + 1 = cc (placed.1, is) in
+    let at : placed.0 + 1 ≡ index + 1 = cc (placed.1, is) in
     let within = slice_get_within kinds placed.0 (get_or asked i d).kind placed.2 in
     let missing : length so_far < length kinds = omega (arith, at, within, past) in
     let there = all.complete (length so_far) missing in
@@ -177,22 +177,22 @@ gap_has_none asked i place d so_far kinds lt rising front is past all =
       | inr later ↦
           let low : unwrap_or (get_or asked i r).number 0 ≤ unwrap_or (get_or asked k r).number 0 =
           rising i k r later there.1.1 in
-          let here : unwrap_or (get_or asked i r).number 0 ≡ place + 1 =
+          let here : unwrap_or (get_or asked i r).number 0 ≡ index + 1 =
           ap (λ (q : Request). unwrap_or q.number 0) (get_or_default asked i r d lt)
-          ∙ number_key (get_or asked i d) (place + 1) is in
+          ∙ number_key (get_or asked i d) (index + 1) is in
           let far : unwrap_or (get_or asked k r).number 0 ≡ length so_far + 1 =
           ap (λ (q : Request). unwrap_or q.number 0) there.1.2 ∙ number_key r (length so_far + 1) there.2 in
           absurd (omega (arith, low, here, far, past))
     ]
 
-pub wrong_has_none : (asked : List Request) (i place : ℕ) (d : Request) (so_far kinds : List Kind) → i < length asked
-    → IsRising asked → ByNumber (take i asked) so_far → (get_or asked i d).number ≡ Some (place + 1)
-    → (place ≡ length so_far → ⊥) → (slice_get so_far place ≡ Some (get_or asked i d).kind → ⊥)
+pub wrong_has_none : (asked : List Request) (i index : ℕ) (d : Request) (so_far kinds : List Kind) → i < length asked
+    → IsRising asked → ByNumber (take i asked) so_far → (get_or asked i d).number ≡ Some (index + 1)
+    → (index ≡ length so_far → ⊥) → (slice_get so_far index ≡ Some (get_or asked i d).kind → ⊥)
     → ByNumber asked kinds → ⊥
-wrong_has_none asked i place d so_far kinds lt rising front is not_next differs all =
-    elim (cases_lt place (length so_far)) [
-      | inl within ↦ clash_has_none asked i place d so_far kinds lt front is within differs all
-      | inr past ↦ gap_has_none asked i place d so_far kinds lt rising front is (omega arith) all
+wrong_has_none asked i index d so_far kinds lt rising front is not_next differs all =
+    elim (cases_lt index (length so_far)) [
+      | inl within ↦ clash_has_none asked i index d so_far kinds lt front is within differs all
+      | inr past ↦ gap_has_none asked i index d so_far kinds lt rising front is (omega arith) all
     ]
 
 -- ---- what is sorted by number

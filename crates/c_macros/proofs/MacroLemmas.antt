@@ -4,7 +4,7 @@ use Rattle.std.proofs.Common.{Some, refl, sym, ap, subst, ◌∙◌, arith, appe
 use Rattle.std.specs.Prelude.{codes}
 use Rattle.std.proofs.lemmas.List.{append_cancel_left, length-append}
 use Rattle.c_signature.specs.Directives.{is_name_byte, is_macro_conversion}
-use Rattle.c_signature.specs.FormatScanning.{IsRun}
+use Rattle.c_signature.specs.Readers.{IsRun}
 use Rattle.c_signature.proofs.Runs.{one_run}
 use Rattle.c_macros.specs.Macros.{kind_of, MacroAt, Kind}
 

@@ -2,19 +2,19 @@
 use Rattle.std.proofs.Common.{◌≡◌, ℕ, ◌-◌, ◌≤◌, List, [], ◌∷◌, ◌++◌, map, length, Option, None, Some}
 use Rattle.std.proofs.Common.{refl, sym, ap, subst, ◌∙◌, arith}
 use Rattle.std.proofs.lemmas.List.{append-nil}
-use Rattle.c_signature.specs.Pieces.{Modifier, Longest, NumberForm, FlagsForm, WidthForm, PrecisionForm, ModifierForm}
-use Rattle.c_signature.specs.Pieces.{percent}
+use Rattle.c_signature.specs.Pieces.{Modifier, Longest, ModifierForm}
 use Rattle.c_signature.specs.Conversions.{Argument, Undefined, Nothing, One, argument_of}
 use Rattle.c_signature.specs.Directives.{Head, TailAt, IsAllowed}
 use Rattle.c_signature.specs.Signature as plain
 use Rattle.c_signature.proofs.DirectiveLemmas.{head_one, tail_needs, tail_allows}
-use Rattle.c_macros.specs.declared.conversions.Argument as code_argument
+use Rattle.c_signature.specs.Readers.{argument_view}
+use Rattle.c_signature.specs.declared.conversions.Argument as code_argument
 use Rattle.c_macros.specs.declared.directives.Head as code_head
 use Rattle.c_macros.specs.declared.directives.Directive as code_directive
 use Rattle.c_macros.specs.Macros.{MacroAt, Kind}
 use Rattle.c_macros.specs.MacroDirectives.{Directive, Spelled, Named, DirectiveAt, plain_request, amounts, Request}
-use Rattle.c_macros.specs.MacroScanning.{amount_view, argument_view, head_view, ReadsHead, HasNoTail, ReadsTail}
-use Rattle.c_macros.specs.MacroScanning.{ReadsDirective, own_of, own_requests, spelled}
+use Rattle.c_macros.specs.MacroScanning.{head_view, ReadsHead, HasNoTail, ReadsTail}
+use Rattle.c_macros.specs.MacroScanning.{ReadsDirective, own_of, own_requests, directive_from}
 use Rattle.c_macros.proofs.MacroDirectiveLemmas.{places}
 
 -- ---- tails
@@ -102,7 +102,7 @@ spelled_read code argument text tail rest (at, flags_left) (m, conversion, is, t
     ap (λ (a : Argument). map plain_request (plain.argument_requests code.head.number a)) (sym is)
     ∙ own_asked code.head.number (argument_view argument)
     ∙ ap (λ (o : Option Kind). own_requests code.head.number o) (sym own) in (
-      Spelled (spelled h m conversion),
+      Spelled (directive_from h m conversion),
       ap (λ (t : List Request). amounts h.width ++ amounts h.precision ++ t) asked,
       record { flags = fit.0; left = fit.1; named = rw named tt },
       λ total. (

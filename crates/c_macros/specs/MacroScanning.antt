@@ -1,39 +1,20 @@
--- Private: what the readers of directives and of their parts guarantee to one another.
+-- Private: what the readers of directives guarantee to one another.
 use Rattle.std.specs.Prelude.{◌≡◌, ℕ, ◌-◌, ◌≤◌, Bool, List, [], ◌∷◌, ◌++◌, length, Option, None, Some, is_some}
 use Rattle.std.specs.Option.{unwrap_or}
 use Rattle.std.specs.List.{flat_map}
 use Rattle.std.specs.List.Sorted.{IsNonDecreasingBy}
-use Rattle.c_signature.specs.Pieces.{Amount, Fixed, Asked, Modifier, Of, LongDouble}
-use Rattle.c_signature.specs.Conversions.{Argument, Undefined, Nothing, One, argument_of}
+use Rattle.c_signature.specs.declared.conversions.Argument as code_argument
+use Rattle.c_signature.specs.Pieces.{Modifier}
+use Rattle.c_signature.specs.Conversions.{Argument, One, argument_of}
 use Rattle.c_signature.specs.Directives as c
 use Rattle.c_signature.specs.Directives.{Head, HeadAt, TailAt}
-use Rattle.c_macros.specs.declared.parts.Amount as code_amount
-use Rattle.c_macros.specs.declared.parts.Amount.TheVariants as amounts
-use Rattle.c_macros.specs.declared.parts.Modifier as code_modifier
-use Rattle.c_macros.specs.declared.parts.Modifier.TheVariants as modifiers
-use Rattle.c_macros.specs.declared.conversions.Argument as code_argument
-use Rattle.c_macros.specs.declared.conversions.Argument.TheVariants as arguments
+use Rattle.c_signature.specs.Readers.{amount_view, argument_view}
 use Rattle.c_macros.specs.declared.directives.Head as code_head
 use Rattle.c_macros.specs.declared.directives.Named as code_named
 use Rattle.c_macros.specs.declared.directives.Directive as code_directive
 pub use Rattle.c_macros.specs.MacroDirectives.{Directive, request, amounts, requests, Request, Kind, Plain}
 use Rattle.c_macros.specs.MacroFormat.{IsMacroFormat, MacroFault, Invalid, Memory}
 use Rattle.c_macros.specs.MacroSplits.{split, flag_splits, HasPartsAt, HasParts, Split}
-
--- ---- the enums of the code
-
-abbrev pub amount_view : code_amount.Amount → Amount
-amount_view amounts.Fixed = Fixed
-amount_view (amounts.Asked number) = Asked number
-
-abbrev pub modifier_view : code_modifier.Modifier → Modifier
-modifier_view (modifiers.Of size) = Of size
-modifier_view modifiers.LongDouble = LongDouble
-
-abbrev pub argument_view : code_argument.Argument → Argument
-argument_view arguments.Undefined = Undefined
-argument_view arguments.Nothing = Nothing
-argument_view (arguments.One kind) = One kind
 
 -- ---- heads and tails
 
@@ -53,14 +34,14 @@ ReadsHead h text rest = (at : HeadAt (head_view h) text rest) × (h.flags_left �
 abbrev pub HasNoTail : Option ℕ → List ℕ → Type 0
 HasNoTail number text = (d : c.Directive) (rest : List ℕ) → d.head.number ≡ number → ¬ TailAt d text rest
 
-abbrev pub spelled : Head → Modifier → ℕ → c.Directive
-spelled head modifier conversion = record { head = head; modifier = modifier; conversion = conversion }
+abbrev pub directive_from : Head → Modifier → ℕ → c.Directive
+directive_from head modifier conversion = record { head = head; modifier = modifier; conversion = conversion }
 
 -- text is a tail of a directive with this number, which takes this argument, followed by rest
 abbrev pub ReadsTail : Option ℕ → code_argument.Argument → List ℕ → List ℕ → Type 0
 ReadsTail number argument text rest = (modifier : Modifier) × (conversion : ℕ)
     × (argument_view argument ≡ argument_of conversion modifier)
-    × ((head : Head) → head.number ≡ number → TailAt (spelled head modifier conversion) text rest)
+    × ((head : Head) → head.number ≡ number → TailAt (directive_from head modifier conversion) text rest)
 
 abbrev pub own_of : Argument → Option Kind
 own_of (One kind) = Some (Plain kind)

@@ -48,17 +48,18 @@ size_of name =
 abbrev pub is_signed : ℕ → Bool
 is_signed conversion = list_any (λ letter. conversion == letter) (codes "di")
 
-abbrev pub sized : ℕ → MacroSize → Kind
-sized conversion size = if is_signed conversion then Macro (Signed size) else Macro (Unsigned size)
+abbrev pub kind_of_size : ℕ → MacroSize → Kind
+kind_of_size conversion size = if is_signed conversion then Macro (Signed size) else Macro (Unsigned size)
 
 -- C standard, 7.20.1.5: `intmax_t` and `uintmax_t`, whose length modifier is `j`
-abbrev pub greatest : ℕ → Kind
-greatest conversion = if is_signed conversion then Plain (plain.Signed Max) else Plain (plain.Unsigned Max)
+abbrev pub greatest_kind : ℕ → Kind
+greatest_kind conversion = if is_signed conversion then Plain (plain.Signed Max) else Plain (plain.Unsigned Max)
 
 -- the kind of argument that a macro with this conversion and name takes, if there is such a macro
 abbrev pub kind_of : ℕ → List ℕ → Option Kind
 kind_of conversion name =
-    if bytes_eq name (codes "MAX") then Some (greatest conversion) else option_map (sized conversion) (size_of name)
+    if bytes_eq name (codes "MAX") then Some (greatest_kind conversion) else option_map (kind_of_size conversion)
+    (size_of name)
 
 -- text is a macro between `<` and `>` that takes this kind of argument, followed by rest (GNU gettext manual,
 -- "c-format")

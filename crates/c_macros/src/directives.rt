@@ -1,16 +1,17 @@
 //! Directives, each read from after its `%`.
-ghost use Rattle.std.specs.Prelude.{◌≡◌, ◌↔◌, ◌∷◌, ℕ, List, MatchOption, IsTrue};
-ghost use Rattle.c_signature.specs.Directives.{IsAllowed};
+ghost use Rattle.std.specs.Prelude.{◌≡◌, ◌∷◌, ℕ, List, MatchOption};
 ghost use Rattle.c_signature.specs.Pieces.{percent};
+ghost use Rattle.c_signature.specs.Readers.{argument_view};
 ghost use Rattle.c_macros.specs.MacroDirectives.{Directive as Value, DirectiveAt};
-ghost use Rattle.c_macros.specs.MacroScanning.{argument_view, HasNoTail, own_of, ReadsDirective, ReadsHead};
-ghost use Rattle.c_macros.specs.MacroScanning.{ReadsTail};
+ghost use Rattle.c_macros.specs.MacroScanning.{HasNoTail, own_of, ReadsDirective, ReadsHead, ReadsTail};
 
 use crate::Kind;
-use crate::conversions::{Argument, argument_of};
 use crate::macros::read_macro;
-use crate::parts::{Amount, read_modifier, read_number, read_precision, read_width, split_flags};
 use byte_text::split_byte;
+use c_signature::{
+    Amount, Argument, argument_of, is_allowed, read_modifier, read_number, read_precision,
+    read_width, split_flags,
+};
 
 /// What comes before the length modifier or the macro.
 #[derive(Clone, Copy)]
@@ -32,7 +33,7 @@ pub(crate) struct Named {
     pub(crate) len: usize,
 }
 
-/// A directive, reduced to the arguments that it takes and the places of its parts.
+/// A directive, reduced to the arguments that it takes and where its parts are.
 #[derive(Clone, Copy)]
 pub(crate) struct Directive<'a> {
     pub(crate) head: Head<'a>,
@@ -57,17 +58,6 @@ fn read_head(text: &[u8]) -> (Head<'_>, &[u8])
         precision,
     };
     (head, rest)
-}
-
-/// Whether a directive may take this argument, given the argument number that it has.
-fn is_allowed(argument: Argument, number: Option<u32>) -> bool
-    ensures { IsTrue result ↔ IsAllowed (argument_view argument) number }
-{
-    match argument {
-        Argument::Undefined => false,
-        Argument::Nothing => number.is_none(),
-        Argument::One(_) => true,
-    }
 }
 
 /// Reads a length modifier and a conversion, behind a head with this number.

@@ -10,11 +10,9 @@ use std::alloc::{AllocError, AllocFailed};
 use thiserror::Error;
 
 mod agreement;
-mod conversions;
 mod directives;
 mod format;
 mod macros;
-mod parts;
 mod requests;
 mod splitting;
 

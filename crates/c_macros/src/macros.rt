@@ -1,42 +1,12 @@
 //! Macros of `<inttypes.h>`, such as `<PRIu64>`.
 ghost use Rattle.std.specs.Prelude.{◌≡◌, ◌++◌, ◌∷◌, ℕ, List, MatchOption, codes, Option, option_map};
-ghost use Rattle.std.specs.List.{prefix_len};
-ghost use Rattle.c_signature.specs.Directives.{BeginsMacro, is_macro_conversion, is_name_byte};
-ghost use Rattle.c_signature.specs.FormatScanning.{IsRun};
 ghost use Rattle.c_macros.specs.declared.Kind.{Kind as KindValue};
 ghost use Rattle.c_macros.specs.Macros as spec;
 
 use crate::{Kind, MacroKind, MacroSize};
 use byte_text::split_byte;
-use c_signature::{ArgKind, Size};
+use c_signature::{ArgKind, Size, has_macros, split_name};
 use format_arguments::after_byte;
-
-fn may_name(byte: u8) -> bool
-    ensures { result ≡ is_name_byte byte }
-{
-    byte.is_ascii_uppercase() || byte.is_ascii_digit()
-}
-
-/// The number of bytes at the front that may be in the name of a macro.
-fn name_len(text: &[u8]) -> usize
-    ensures { result ≡ prefix_len is_name_byte text.now }
-{
-    text.iter().take_while(|byte| may_name(**byte)).count()
-}
-
-/// Splits off the bytes at the front that may be in the name of a macro.
-fn split_name(text: &[u8]) -> (&[u8], &[u8])
-    ensures { IsRun is_name_byte text.now result.0.now result.1.now }
-{
-    text.split_at(name_len(text))
-}
-
-/// Whether `<inttypes.h>` has macros for this conversion.
-fn has_macros(conversion: u8) -> bool
-    ensures { result ≡ is_macro_conversion conversion }
-{
-    matches!(conversion, b'd' | b'i' | b'o' | b'u' | b'x' | b'X')
-}
 
 fn is_signed(conversion: u8) -> bool
     ensures { result ≡ spec.is_signed conversion }
@@ -121,7 +91,7 @@ fn size_of(name: &[u8]) -> Option<MacroSize>
 
 /// The kind of argument that the macros of the name `MAX` take.
 fn greatest(conversion: u8) -> Kind
-    ensures { result ≡ spec.greatest conversion }
+    ensures { result ≡ spec.greatest_kind conversion }
 {
     if is_signed(conversion) {
         Kind::Plain(ArgKind::Signed(Size::Max))
@@ -131,7 +101,7 @@ fn greatest(conversion: u8) -> Kind
 }
 
 fn sized(conversion: u8, size: MacroSize) -> Kind
-    ensures { result ≡ spec.sized conversion size }
+    ensures { result ≡ spec.kind_of_size conversion size }
 {
     if is_signed(conversion) {
         Kind::Macro(MacroKind::Signed(size))

@@ -2,16 +2,15 @@
 ghost use Rattle.std.specs.Prelude.{◌≡◌, ◌↔◌, ◌+◌, ◌++◌, ℕ, IsTrue, slice_get, List, map, OnOk, IfOk, IfErr};
 ghost use Rattle.std.specs.Prelude.{MatchOption, Option, Some, true};
 ghost use Rattle.std.specs.List.{list_any};
+ghost use Rattle.c_signature.specs.Readers.{amount_view};
 ghost use Rattle.c_macros.specs.declared.Kind.{Kind as KindValue};
 ghost use Rattle.c_macros.specs.MacroDirectives.{amounts};
 ghost use Rattle.c_macros.specs.MacroFormat.{AsksFor, ByNumber, HasNoList};
-ghost use Rattle.c_macros.specs.MacroScanning.{amount_view, asked_by, is_numbered, IsInvalidOnly, IsRising};
-ghost use Rattle.c_macros.specs.MacroScanning.{own_requests};
+ghost use Rattle.c_macros.specs.MacroScanning.{asked_by, is_numbered, IsInvalidOnly, IsRising, own_requests};
 
 use crate::directives::Directive;
-use crate::parts::Amount;
 use crate::{Kind, MacroFault};
-use c_signature::{ArgKind, Size};
+use c_signature::{Amount, ArgKind, Size};
 use std::alloc::{AllocError, Global};
 
 /// An argument that is asked for: the next one, or the one with a number.
@@ -79,9 +78,9 @@ fn in_order(alloc: Global, asked: &[Request]) -> Result<Vec<Kind>, AllocError>
 }
 
 /// The index in the list of the argument with this number.
-fn place_of(number: Option<u32>) -> Option<usize>
-    ensures { MatchOption result ((place : ℕ) → ¬ (number ≡ Some (place + 1)))
-        (λ place. number ≡ Some (place + 1)) }
+fn index_of(number: Option<u32>) -> Option<usize>
+    ensures { MatchOption result ((index : ℕ) → ¬ (number ≡ Some (index + 1)))
+        (λ index. number ≡ Some (index + 1)) }
 {
     match number {
         Some(number) => (number as usize).checked_sub(1),
@@ -90,10 +89,10 @@ fn place_of(number: Option<u32>) -> Option<usize>
 }
 
 /// Whether the kind at this index is this one.
-fn is_at(kinds: &[Kind], place: usize, kind: Kind) -> bool
-    ensures { IsTrue result ↔ (slice_get kinds.now place ≡ Some kind) }
+fn is_at(kinds: &[Kind], index: usize, kind: Kind) -> bool
+    ensures { IsTrue result ↔ (slice_get kinds.now index ≡ Some kind) }
 {
-    match kinds.get(place) {
+    match kinds.get(index) {
         Some(found) => *found == kind,
         None => false,
     }
@@ -108,12 +107,12 @@ fn by_number(alloc: Global, asked: &[Request]) -> Result<Vec<Kind>, MacroFault>
 {
     let mut kinds = Vec::new(alloc);
     'asked: for request in asked {
-        let Some(place) = place_of(request.number) else {
+        let Some(index) = index_of(request.number) else {
             return Err(MacroFault::Invalid)
         };
-        if place == kinds.len() {
+        if index == kinds.len() {
             kinds.push(request.kind)?;
-        } else if !is_at(&kinds, place, request.kind) {
+        } else if !is_at(&kinds, index, request.kind) {
             return Err(MacroFault::Invalid);
         }
     }

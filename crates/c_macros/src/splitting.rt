@@ -1,6 +1,5 @@
 //! The parts of a text that differ from system to system.
-ghost use Rattle.std.specs.Prelude.{◌≡◌, ◌↔◌, ◌+◌, ◌++◌, ◌∷◌, [], ◌≤◌, ◌^◌, ◌<◌, IsTrue, OnOk, IfOk};
-ghost use Rattle.std.specs.Prelude.{length};
+ghost use Rattle.std.specs.Prelude.{◌≡◌, ◌↔◌, ◌+◌, ◌++◌, ◌∷◌, [], ◌≤◌, ◌^◌, ◌<◌, IsTrue, OnOk, IfOk, length};
 ghost use Rattle.std.specs.List.{list_all};
 ghost use Rattle.c_macros.specs.MacroSplits.{AreWithin, flag_splits, is_macro, IsOf, IsSplitAt};
 ghost use Rattle.c_macros.specs.MacroScanning.{Fits, named_parts, NamedFits, parts_of};

@@ -12,7 +12,8 @@ use Rattle.c_signature.specs.Pieces.{FlagsForm, WidthForm, PrecisionForm, Modifi
 use Rattle.c_signature.specs.Conversions.{Undefined, argument_of}
 use Rattle.c_signature.specs.Directives.{Head, Directive, own_argument, HeadAt, TailAt}
 use Rattle.c_signature.specs.Directives.{DirectiveAt, IsAllowed, BeginsMacro, is_name_byte, is_macro_conversion}
-use Rattle.c_signature.specs.FormatScanning.{IsRun, Refuses}
+use Rattle.c_signature.specs.FormatScanning.{Refuses}
+use Rattle.c_signature.specs.Readers.{IsRun}
 use Rattle.c_signature.proofs.Runs.{one_run}
 use Rattle.c_signature.proofs.PartLemmas.{longest_one, number_value, flags_value, width_value}
 use Rattle.c_signature.proofs.PartLemmas.{precision_value, modifier_value, not_at}

@@ -45,16 +45,16 @@ no_percent text none = record {
     take_all_of : take (length text) text ≡ text
     take_all_of = take_all (length text) text (omega arith)
 
-pub to_percent : (text : List ℕ) (place : ℕ) → IsFirstByte (is_byte percent) text (Some place)
-    → SkipsPlain text (percent ∷ take (length text - (place + 1)) (drop (place + 1) text))
-to_percent text place (first, at) =
-    let here : get_or text place 0 ≡ percent = eqb-true _ _ at in
-    let rest : drop place text ≡ percent ∷ drop (place + 1) text = drop_more text place 0 first.high
-    ∙ ap (λ (b : ℕ). b ∷ drop (place + 1) text) here in
+pub to_percent : (text : List ℕ) (offset : ℕ) → IsFirstByte (is_byte percent) text (Some offset)
+    → SkipsPlain text (percent ∷ take (length text - (offset + 1)) (drop (offset + 1) text))
+to_percent text offset (first, at) =
+    let here : get_or text offset 0 ≡ percent = eqb-true _ _ at in
+    let rest : drop offset text ≡ percent ∷ drop (offset + 1) text = drop_more text offset 0 first.high
+    ∙ ap (λ (b : ℕ). b ∷ drop (offset + 1) text) here in
     record {
-      plain = take place text;
-      text_is = rw (take_rest text (place + 1), ← rest) (sym (take-append-drop place text));
-      no_percent = plain_before text place (omega (arith, first.high)) (λ k lt e. first.before k (omega arith) lt e);
+      plain = take offset text;
+      text_is = rw (take_rest text (offset + 1), ← rest) (sym (take-append-drop offset text));
+      no_percent = plain_before text offset (omega (arith, first.high)) (λ k lt e. first.before k (omega arith) lt e);
     }
 
 -- ---- the cut so far

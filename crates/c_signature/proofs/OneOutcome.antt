@@ -10,7 +10,7 @@ use Rattle.c_signature.specs.Pieces.{percent}
 use Rattle.c_signature.specs.Directives.{Directive, DirectiveAt, IsUnreadable, NamesMacro}
 use Rattle.c_signature.specs.Signature.{Request, requests, InOrder, ByNumber, AsksFor, is_plain, SkipsPlain}
 use Rattle.c_signature.specs.Signature.{Cuts, IsFormat, StopsAt, Lists, IsInvalid, IsSystemDependent}
-use Rattle.c_signature.specs.FormatScanning.{Stops}
+use Rattle.c_signature.specs.Readers.{Stops}
 use Rattle.c_signature.proofs.Runs.{one_run}
 use Rattle.c_signature.proofs.DirectiveLemmas.{directive_one}
 use Rattle.c_signature.proofs.RequestLemmas.{contains_first}

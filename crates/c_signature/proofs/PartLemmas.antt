@@ -13,7 +13,8 @@ use Rattle.c_signature.specs.Pieces.{Amount, Fixed, Asked, Modifier, Of, LongDou
 use Rattle.byte_text.specs.Decimal.{decimal_value}
 use Rattle.c_signature.specs.Pieces.{Longest, NumberForm, FlagsForm, WidthForm, PrecisionForm, ModifierForm, is_flag}
 use Rattle.c_signature.specs.Pieces.{dollar, star, dot, IsNumeral, is_first_digit}
-use Rattle.c_signature.specs.FormatScanning.{BeginsNumber, IsRun, IsNumberOf}
+use Rattle.c_signature.specs.FormatScanning.{BeginsNumber, IsNumberOf}
+use Rattle.c_signature.specs.Readers.{IsRun}
 use Rattle.c_signature.proofs.Runs.{run_longest, one_run}
 
 -- ---- one reading

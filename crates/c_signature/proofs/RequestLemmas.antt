@@ -214,11 +214,11 @@ rows_next : (rows : List Row) (i : ℕ) (d : Row) (kinds new : List ArgKind) →
 rows_next rows i d kinds new lt so_far is e =
     rw (rows_more rows i d lt, e, is) (number_next (map request_of (take i rows)) kinds (get_or rows i d).kind so_far)
 
-rows_again : (rows : List Row) (i place : ℕ) (d : Row) (kinds : List ArgKind) → i < length rows
-    → ByNumber (map request_of (take i rows)) kinds → (get_or rows i d).number ≡ place + 1 → slice_get kinds place
+rows_again : (rows : List Row) (i index : ℕ) (d : Row) (kinds : List ArgKind) → i < length rows
+    → ByNumber (map request_of (take i rows)) kinds → (get_or rows i d).number ≡ index + 1 → slice_get kinds index
     ≡ Some (get_or rows i d).kind → ByNumber (map request_of (take (i + 1) rows)) kinds
-rows_again rows i place d kinds lt so_far is at =
-    rw (rows_more rows i d lt, is) (number_again (map request_of (take i rows)) kinds place (get_or rows i d).kind
+rows_again rows i index d kinds lt so_far is at =
+    rw (rows_more rows i d lt, is) (number_again (map request_of (take i rows)) kinds index (get_or rows i d).kind
     so_far at)
 
 -- ---- rows with no list
@@ -237,37 +237,37 @@ zero_has_none rows i d kinds lt none all =
     none (omega (arith, e))
 
 -- two kinds at one index
-clash : (kinds : List ArgKind) (place : ℕ) (r q : Request) → HasPlace kinds r → HasPlace kinds q → r.number
-    ≡ Some (place + 1) → q.number ≡ Some (place + 1) → r.kind ≡ q.kind
-clash kinds place r q (i, e, at) (j, f, there) is also =
-    let i_is : i + 1 ≡ place + 1 = cc (e, is) in
-    let j_is : j + 1 ≡ place + 1 = cc (f, also) in
+clash : (kinds : List ArgKind) (index : ℕ) (r q : Request) → HasPlace kinds r → HasPlace kinds q → r.number
+    ≡ Some (index + 1) → q.number ≡ Some (index + 1) → r.kind ≡ q.kind
+clash kinds index r q (i, e, at) (j, f, there) is also =
+    let i_is : i + 1 ≡ index + 1 = cc (e, is) in
+    let j_is : j + 1 ≡ index + 1 = cc (f, also) in
     let same : i ≡ j = omega arith in
     cc (at, there, same)
 
 in_front : (rows : List Row) (i : ℕ) (row : Row) → Contains (take i rows) row → Contains rows row
 in_front rows i row c = rw (← take-append-drop i rows) (Contains-append_left (take i rows) (drop i rows) row c)
 
-clash_has_none : (rows : List Row) (i place : ℕ) (d : Row) (so_far kinds : List ArgKind) → i < length rows
-    → ByNumber (map request_of (take i rows)) so_far → (get_or rows i d).number ≡ place + 1 → place < length so_far
-    → (slice_get so_far place ≡ Some (get_or rows i d).kind → ⊥) → ByNumber (map request_of rows) kinds → ⊥
-clash_has_none rows i place d so_far kinds lt front is within differs all =
-    let there = front.complete place within in
+clash_has_none : (rows : List Row) (i index : ℕ) (d : Row) (so_far kinds : List ArgKind) → i < length rows
+    → ByNumber (map request_of (take i rows)) so_far → (get_or rows i d).number ≡ index + 1 → index < length so_far
+    → (slice_get so_far index ≡ Some (get_or rows i d).kind → ⊥) → ByNumber (map request_of rows) kinds → ⊥
+clash_has_none rows i index d so_far kinds lt front is within differs all =
+    let there = front.complete index within in
     let before = contains_map request_of (take i rows) there.0 there.1 in
     let whole : Contains (map request_of rows) there.0 = subst (λ (q : Request). Contains (map request_of rows) q)
     before.2 (map_contains request_of rows before.0 (in_front rows i before.0 before.1)) in
     let row = request_of (get_or rows i d) in
-    let kinds_same : there.0.kind ≡ (get_or rows i d).kind = clash kinds place there.0 row (all.placed there.0 whole)
+    let kinds_same : there.0.kind ≡ (get_or rows i d).kind = clash kinds index there.0 row (all.placed there.0 whole)
     (row_placed rows i d kinds lt all) there.2 (ap Some is) in
     let old = front.placed there.0 there.1 in
-    let old_place : old.0 + 1 ≡ place + 1 = cc (old.1, there.2) in
-    let same : old.0 ≡ place = omega (arith, old_place) in
+    let old_place : old.0 + 1 ≡ index + 1 = cc (old.1, there.2) in
+    let same : old.0 ≡ index = omega (arith, old_place) in
     differs (rw (← same) (old.2 ∙ ap Some kinds_same))
 
-gap_has_none : (rows : List Row) (i place : ℕ) (d : Row) (so_far kinds : List ArgKind) → i < length rows → IsRising rows
-    → ByNumber (map request_of (take i rows)) so_far → (get_or rows i d).number ≡ place + 1 → length so_far < place
+gap_has_none : (rows : List Row) (i index : ℕ) (d : Row) (so_far kinds : List ArgKind) → i < length rows → IsRising rows
+    → ByNumber (map request_of (take i rows)) so_far → (get_or rows i d).number ≡ index + 1 → length so_far < index
     → ByNumber (map request_of rows) kinds → ⊥
-gap_has_none rows i place d so_far kinds lt rising front is past all =
+gap_has_none rows i index d so_far kinds lt rising front is past all =
     let placed = row_placed rows i d kinds lt all in
     let at : (get_or rows i d).number ≡ placed.0 + 1 = cc placed.1 in
     let within = slice_get_within kinds placed.0 (get_or rows i d).kind placed.2 in
@@ -295,29 +295,29 @@ gap_has_none rows i place d so_far kinds lt rising front is past all =
           absurd (omega (arith, low, here, far, number, is, past))
     ]
 
-pub wrong_has_none : (rows : List Row) (i place : ℕ) (d : Row) (so_far kinds : List ArgKind) → i < length rows
+pub wrong_has_none : (rows : List Row) (i index : ℕ) (d : Row) (so_far kinds : List ArgKind) → i < length rows
     → IsRising rows → ByNumber (map request_of (take i rows)) so_far → (1 ≤ (get_or rows i d).number)
-    × (place ≡ (get_or rows i d).number - 1) → (place ≡ length so_far → ⊥)
-    → (slice_get so_far place ≡ Some (get_or rows i d).kind → ⊥) → ByNumber (map request_of rows) kinds → ⊥
-wrong_has_none rows i place d so_far kinds lt rising front (some, at) not_next differs all =
-    let is : (get_or rows i d).number ≡ place + 1 = omega arith in
-    elim (cases_lt place (length so_far)) [
-      | inl within ↦ clash_has_none rows i place d so_far kinds lt front is within differs all
-      | inr past ↦ gap_has_none rows i place d so_far kinds lt rising front is (omega arith) all
+    × (index ≡ (get_or rows i d).number - 1) → (index ≡ length so_far → ⊥)
+    → (slice_get so_far index ≡ Some (get_or rows i d).kind → ⊥) → ByNumber (map request_of rows) kinds → ⊥
+wrong_has_none rows i index d so_far kinds lt rising front (some, at) not_next differs all =
+    let is : (get_or rows i d).number ≡ index + 1 = omega arith in
+    elim (cases_lt index (length so_far)) [
+      | inl within ↦ clash_has_none rows i index d so_far kinds lt front is within differs all
+      | inr past ↦ gap_has_none rows i index d so_far kinds lt rising front is (omega arith) all
     ]
 
 -- one more row, if it fits the list
-pub row_next : (rows : List Row) (i place : ℕ) (d : Row) (kinds new : List ArgKind) → i < length rows
+pub row_next : (rows : List Row) (i index : ℕ) (d : Row) (kinds new : List ArgKind) → i < length rows
     → ByNumber (map request_of (take i rows)) kinds → (1 ≤ (get_or rows i d).number)
-    × (place ≡ (get_or rows i d).number - 1) → place ≡ length kinds → new ≡ kinds ++ (get_or rows i d).kind ∷ []
+    × (index ≡ (get_or rows i d).number - 1) → index ≡ length kinds → new ≡ kinds ++ (get_or rows i d).kind ∷ []
     → ByNumber (map request_of (take (i + 1) rows)) new
-row_next rows i place d kinds new lt so_far (some, at) next e = rows_next rows i d kinds new lt so_far (omega arith) e
+row_next rows i index d kinds new lt so_far (some, at) next e = rows_next rows i d kinds new lt so_far (omega arith) e
 
-pub row_again : (rows : List Row) (i place : ℕ) (d : Row) (kinds : List ArgKind) → i < length rows
+pub row_again : (rows : List Row) (i index : ℕ) (d : Row) (kinds : List ArgKind) → i < length rows
     → ByNumber (map request_of (take i rows)) kinds → (1 ≤ (get_or rows i d).number)
-    × (place ≡ (get_or rows i d).number - 1) → slice_get kinds place ≡ Some (get_or rows i d).kind
+    × (index ≡ (get_or rows i d).number - 1) → slice_get kinds index ≡ Some (get_or rows i d).kind
     → ByNumber (map request_of (take (i + 1) rows)) kinds
-row_again rows i place d kinds lt so_far (some, at) there = rows_again rows i place d kinds lt so_far (omega arith)
+row_again rows i index d kinds lt so_far (some, at) there = rows_again rows i index d kinds lt so_far (omega arith)
     there
 
 -- ---- the list of what is kept

@@ -3,7 +3,7 @@ use Rattle.std.proofs.Common.{◌≡◌, ℕ, ◌≤◌, Bool, true, false, List
 use Rattle.std.proofs.Common.{take, drop, refl, sym, ap, ◌∙◌, arith, one-add, inl, inr}
 use Rattle.std.specs.List.{prefix_len, list_all}
 use Rattle.std.proofs.lemmas.Bool.{cases_Bool, and_parts}
-use Rattle.c_signature.specs.FormatScanning.{Stops, IsRun}
+use Rattle.c_signature.specs.Readers.{Stops, IsRun}
 
 run_cons : (p : ℕ → Bool) (b : ℕ) (text run rest : List ℕ) → p b ≡ true → IsRun p text run rest
     → IsRun p (b ∷ text) (b ∷ run) rest

@@ -39,9 +39,9 @@ count (Of size) = One (Count size)
 count parts.LongDouble = Undefined
 
 -- a conversion that allows no length modifier
-abbrev pub alone : Argument → Modifier → Argument
-alone argument (Of Plain) = argument
-alone argument _ = Undefined
+abbrev pub without_modifier : Argument → Modifier → Argument
+without_modifier argument (Of Plain) = argument
+without_modifier argument _ = Undefined
 
 -- C standard, 7.21.6.1, 7 and 8; `C` and `S` are POSIX's, `m` is glibc's
 abbrev pub table : List (List ℕ × (Modifier → Argument))
@@ -51,11 +51,11 @@ table =
     ∷ (codes "eEfFgGaA", floating)
     ∷ (codes "c", narrow_or_wide Char WideChar)
     ∷ (codes "s", narrow_or_wide Text WideText)
-    ∷ (codes "C", alone (One WideChar))
-    ∷ (codes "S", alone (One WideText))
-    ∷ (codes "p", alone (One Pointer))
+    ∷ (codes "C", without_modifier (One WideChar))
+    ∷ (codes "S", without_modifier (One WideText))
+    ∷ (codes "p", without_modifier (One Pointer))
     ∷ (codes "n", count)
-    ∷ (codes "m%", alone Nothing)
+    ∷ (codes "m%", without_modifier Nothing)
     ∷ []
 
 -- the row of a conversion, applied to a length modifier

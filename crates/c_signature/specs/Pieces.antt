@@ -1,4 +1,5 @@
 -- The parts of a directive (C standard, 7.21.6.1, 4), with the argument numbers of POSIX.
+pub use Rattle.byte_text.specs.Characters.{percent, dollar, star, dot}
 use Rattle.std.specs.Prelude.{◌≡◌, ℕ, ◌≤◌, Bool, true, ◌&&◌, ◌==◌, nat_le}
 use Rattle.std.specs.Prelude.{List, [], ◌∷◌, ◌++◌, length, Option, None, Some, ◌⊎◌, codes}
 use Rattle.std.specs.List.{list_all, list_any}
@@ -8,18 +9,6 @@ use Rattle.c_signature.specs.declared.Size.{Size}
 use Rattle.c_signature.specs.declared.Size.TheVariants.{Byte, Short, Plain, Long, LongLong, Max, SizeT, PtrDiff}
 
 -- ---- the special characters of formats
-
-abbrev pub percent : ℕ
-percent = 37
-
-abbrev pub dollar : ℕ
-dollar = 36
-
-abbrev pub star : ℕ
-star = 42
-
-abbrev pub dot : ℕ
-dot = 46
 
 -- ---- a part of a text, as long as possible
 

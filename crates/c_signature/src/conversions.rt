@@ -1,18 +1,19 @@
 //! Conversions, and the arguments that they take.
 ghost use Rattle.std.specs.Prelude.{◌≡◌};
 ghost use Rattle.c_signature.specs.Conversions as table;
-ghost use Rattle.c_signature.specs.FormatScanning.{argument_view, modifier_view};
+ghost use Rattle.c_signature.specs.Readers.{argument_view, modifier_view};
 
 use crate::parts::Modifier;
 use crate::{ArgKind, Size};
 
 /// The argument that a directive takes, given its conversion and length modifier.
 #[derive(Clone, Copy)]
-pub(crate) enum Argument {
+pub enum Argument {
     /// The conversion is undefined with this length modifier.
     Undefined,
     /// No argument, as for `%%`.
     Nothing,
+    /// One argument of this kind.
     One(ArgKind),
 }
 
@@ -58,7 +59,7 @@ fn count(modifier: Modifier) -> Argument
 
 /// The argument of a conversion that allows no length modifier.
 fn alone(modifier: Modifier, argument: Argument) -> Argument
-    ensures { argument_view result ≡ table.alone (argument_view argument) (modifier_view modifier) }
+    ensures { argument_view result ≡ table.without_modifier (argument_view argument) (modifier_view modifier) }
 {
     match modifier {
         Modifier::Of(Size::Plain) => argument,
@@ -66,8 +67,8 @@ fn alone(modifier: Modifier, argument: Argument) -> Argument
     }
 }
 
-/// The argument that a conversion takes with this length modifier.
-pub(crate) fn argument_of(conversion: u8, modifier: Modifier) -> Argument
+/// The argument that a conversion takes with this length modifier (C standard, 7.21.6.1, 7 and 8).
+pub fn argument_of(conversion: u8, modifier: Modifier) -> Argument
     ensures { argument_view result ≡ table.argument_of conversion (modifier_view modifier) }
 {
     match conversion {

@@ -2,13 +2,14 @@
 ghost use Rattle.std.specs.Prelude.{◌≡◌, ◌↔◌, ◌++◌, ◌∷◌, ◌<◌, List, ℕ, IfOk, IfErr, IsTrue, length};
 ghost use Rattle.std.specs.List.{prefix_len};
 ghost use Rattle.c_signature.specs.Directives.{BeginsMacro, IsAllowed, is_macro_conversion, is_name_byte};
-ghost use Rattle.c_signature.specs.FormatScanning.{IsRun, ReadsDirective, Refuses, argument_view};
+ghost use Rattle.c_signature.specs.FormatScanning.{ReadsDirective, Refuses};
+ghost use Rattle.c_signature.specs.Readers.{IsRun, argument_view};
 ghost use Rattle.c_signature.specs.Pieces.{percent};
 
 use crate::FormatFault;
 use crate::conversions::{Argument, argument_of};
 use crate::parts::{
-    Amount, after_byte, read_modifier, read_number, read_precision, read_width, skip_flags,
+    Amount, after_byte, read_modifier, read_number, read_precision, read_width, split_flags,
 };
 use byte_text::split_byte;
 
@@ -35,15 +36,15 @@ fn name_len(text: &[u8]) -> usize
     text.iter().take_while(|byte| may_name(**byte)).count()
 }
 
-/// Splits off the bytes at the front that may be in the name of a macro.
-fn split_name(text: &[u8]) -> (&[u8], &[u8])
+/// Splits off the bytes at the front that may be in the name of a macro: capital letters and digits.
+pub fn split_name(text: &[u8]) -> (&[u8], &[u8])
     ensures { IsRun is_name_byte text.now result.0.now result.1.now }
 {
     text.split_at(name_len(text))
 }
 
-/// Whether `<inttypes.h>` has macros for this conversion.
-fn has_macros(conversion: u8) -> bool
+/// Whether `<inttypes.h>` has macros for this conversion (C standard, 7.8.1).
+pub fn has_macros(conversion: u8) -> bool
     ensures { result ≡ is_macro_conversion conversion }
 {
     matches!(conversion, b'd' | b'i' | b'o' | b'u' | b'x' | b'X')
@@ -67,7 +68,7 @@ fn begins_macro(text: &[u8]) -> bool
 }
 
 /// Whether a directive may take this argument, given the argument number that it has.
-fn is_allowed(argument: Argument, number: Option<u32>) -> bool
+pub fn is_allowed(argument: Argument, number: Option<u32>) -> bool
     ensures { IsTrue result ↔ IsAllowed (argument_view argument) number }
 {
     match argument {
@@ -84,7 +85,7 @@ pub(crate) fn read_directive(text: &[u8]) -> Result<(Directive, &[u8]), FormatFa
     ensures err { IfErr result (λ fault. Refuses fault (percent ∷ text.now)) }
 {
     let (number, rest) = read_number(text);
-    let rest = skip_flags(rest);
+    let (_, rest) = split_flags(rest);
     let (width, rest) = read_width(rest);
     let (precision, rest) = read_precision(rest);
     if begins_macro(rest) {

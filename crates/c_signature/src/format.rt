@@ -15,8 +15,8 @@ fn next_directive(text: &[u8]) -> Option<&[u8]>
     ensures { MatchOption result (SkipsPlain text.now [])
         (λ rest. SkipsPlain text.now (percent ∷ rest.now)) }
 {
-    let place = memchr(b'%', text)?;
-    Some(&text[place + 1..])
+    let offset = memchr(b'%', text)?;
+    Some(&text[offset + 1..])
 }
 
 /// The arguments that a C format takes, in order (C standard, 7.21.6.1; numbered arguments as in POSIX, by numbers of

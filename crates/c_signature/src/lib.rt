@@ -16,7 +16,12 @@ mod parts;
 mod requests;
 
 pub use agreement::agrees;
+pub use conversions::{Argument, argument_of};
+pub use directives::{has_macros, is_allowed, split_name};
 pub use format::{one_outcome, signature};
+pub use parts::{
+    Amount, Modifier, read_modifier, read_number, read_precision, read_width, split_flags,
+};
 
 /// The size of an integer, by the length modifier before its conversion (C standard, 7.21.6.1, 7).
 #[derive(Clone, Copy, Debug, PartialEq, Eq)]

@@ -5,14 +5,15 @@ ghost use Rattle.std.specs.List.{list_all, prefix_len};
 ghost use Rattle.std.specs.Char.{is_ascii_digit};
 ghost use Rattle.c_signature.specs.Pieces.{Longest, NumberForm, FlagsForm, WidthForm};
 ghost use Rattle.c_signature.specs.Pieces.{PrecisionForm, ModifierForm, is_flag};
-ghost use Rattle.c_signature.specs.FormatScanning.{BeginsNumber, IsNumberOf, IsRun, amount_view, modifier_view};
+ghost use Rattle.c_signature.specs.FormatScanning.{BeginsNumber, IsNumberOf};
+ghost use Rattle.c_signature.specs.Readers.{IsRun, amount_view, modifier_view};
 
 use crate::Size;
 use byte_text::split_byte;
 
 /// How a width or a precision is given.
 #[derive(Clone, Copy)]
-pub(crate) enum Amount {
+pub enum Amount {
     /// Left out or in digits: it takes no argument.
     Fixed,
     /// `*` or `*m$`: it takes the next argument, or the one with this number.
@@ -21,7 +22,7 @@ pub(crate) enum Amount {
 
 /// A length modifier.
 #[derive(Clone, Copy)]
-pub(crate) enum Modifier {
+pub enum Modifier {
     /// A modifier of integers, or none.
     Of(Size),
     /// `L`
@@ -66,8 +67,8 @@ fn number_of(digits: &[u8]) -> Option<u32>
     Some(number)
 }
 
-/// Reads `m$`, an argument number, if there is one.
-pub(crate) fn read_number(text: &[u8]) -> (Option<u32>, &[u8])
+/// Reads `m$`, an argument number (POSIX), if there is one; `m` has at most 9 digits and no leading 0.
+pub fn read_number(text: &[u8]) -> (Option<u32>, &[u8])
     ensures { Longest NumberForm result.0 text.now result.1.now }
 {
     let (digits, after) = split_digits(text);
@@ -94,12 +95,11 @@ fn flags_len(text: &[u8]) -> usize
     text.iter().take_while(|byte| is_flag_byte(**byte)).count()
 }
 
-/// Skips the flags at the front.
-pub(crate) fn skip_flags(text: &[u8]) -> &[u8]
-    ensures { (flags : List ℕ) × Longest FlagsForm flags text.now result.now }
+/// Splits off the flags at the front.
+pub fn split_flags(text: &[u8]) -> (&[u8], &[u8])
+    ensures { Longest FlagsForm result.0.now text.now result.1.now }
 {
-    let (_, rest) = text.split_at(flags_len(text));
-    rest
+    text.split_at(flags_len(text))
 }
 
 /// Whether a number without a leading 0 is at the front.
@@ -113,7 +113,7 @@ fn begins_number(text: &[u8]) -> bool
 }
 
 /// Reads a width, which may be left out.
-pub(crate) fn read_width(text: &[u8]) -> (Amount, &[u8])
+pub fn read_width(text: &[u8]) -> (Amount, &[u8])
     ensures { Longest WidthForm (amount_view result.0) text.now result.1.now }
 {
     if let Some(after) = after_byte(text, b'*') {
@@ -128,7 +128,7 @@ pub(crate) fn read_width(text: &[u8]) -> (Amount, &[u8])
 }
 
 /// Reads a precision, which may be left out.
-pub(crate) fn read_precision(text: &[u8]) -> (Amount, &[u8])
+pub fn read_precision(text: &[u8]) -> (Amount, &[u8])
     ensures { Longest PrecisionForm (amount_view result.0) text.now result.1.now }
 {
     let Some(behind) = after_byte(text, b'.') else {
@@ -143,7 +143,7 @@ pub(crate) fn read_precision(text: &[u8]) -> (Amount, &[u8])
 }
 
 /// Reads a length modifier, which may be left out.
-pub(crate) fn read_modifier(text: &[u8]) -> (Modifier, &[u8])
+pub fn read_modifier(text: &[u8]) -> (Modifier, &[u8])
     ensures { Longest ModifierForm (modifier_view result.0) text.now result.1.now }
 {
     let Some((letter, after)) = split_byte(text) else {

@@ -2,7 +2,8 @@
 ghost use Rattle.std.specs.Prelude.{◌≡◌, ◌↔◌, IsTrue, slice_get, [], ◌∷◌, List, map, OnOk, IfOk, IfErr};
 ghost use Rattle.c_signature.specs.Signature.{amount_requests, AsksFor, ByNumber, HasNoList, Request, request};
 ghost use Rattle.c_signature.specs.declared.ArgKind.{ArgKind as Kind};
-ghost use Rattle.c_signature.specs.FormatScanning.{amount_view, asked_by};
+ghost use Rattle.c_signature.specs.FormatScanning.{asked_by};
+ghost use Rattle.c_signature.specs.Readers.{amount_view};
 ghost use Rattle.c_signature.specs.Asked.{AddsAsked, KeepsAsked, IsInvalidOnly, IsRising, request_of};
 
 use crate::conversions::Argument;
@@ -25,11 +26,11 @@ pub(crate) struct Requests {
     pub(crate) numbered: Vec<Row>,
 }
 
-/// Whether the kind at index `place` is this one.
-fn is_at(kinds: &[ArgKind], place: usize, kind: ArgKind) -> bool
-    ensures { IsTrue result ↔ (slice_get kinds.now place ≡ Some kind) }
+/// Whether the kind at this index is this one.
+fn is_at(kinds: &[ArgKind], index: usize, kind: ArgKind) -> bool
+    ensures { IsTrue result ↔ (slice_get kinds.now index ≡ Some kind) }
 {
-    match kinds.get(place) {
+    match kinds.get(index) {
         Some(found) => *found == kind,
         None => false,
     }
@@ -44,12 +45,12 @@ fn list_rows(rows: &[Row], mut kinds: Vec<ArgKind>) -> Result<Vec<ArgKind>, Form
         ((kinds : List Kind) → ¬ ByNumber (map request_of rows.now) kinds)) }
 {
     'rows: for row in rows {
-        let Some(place) = (row.number as usize).checked_sub(1) else {
+        let Some(index) = (row.number as usize).checked_sub(1) else {
             return Err(FormatFault::Invalid)
         };
-        if place == kinds.len() {
+        if index == kinds.len() {
             kinds.push(row.kind)?;
-        } else if !is_at(&kinds, place, row.kind) {
+        } else if !is_at(&kinds, index, row.kind) {
             return Err(FormatFault::Invalid);
         }
     }

@@ -2,7 +2,7 @@ use Rattle.std.proofs.Common.{◌≡◌, length, arith, sym, refl, ◌∙◌}
 use Rattle.std.proofs.lemmas.Bool.{false≢true}
 use Rattle.c_signature.proofs.RequestLemmas.{zero_has_none, wrong_has_none, row_next, row_again}
 use Rattle.c_signature.proofs.requests.list_rows.Goals as goal
-use Rattle.c_signature.proofs.requests.list_rows.Goals.{then-place-len+in_ok-push, else-place-len+else-not-is_at}
+use Rattle.c_signature.proofs.requests.list_rows.Goals.{then-index-len+in_ok-push, else-index-len+else-not-is_at}
 
 pub returns-in_default-clause-err : goal.returns-in_default-clause-err
 returns-in_default-clause-err c kinds all = zero_has_none c.args.rows.now c.rows.row-index _ kinds c.rows-test.true
@@ -11,19 +11,19 @@ returns-in_default-clause-err c kinds all = zero_has_none c.args.rows.now c.rows
 pub returns-then-not-is_at-clause-err : goal.returns-then-not-is_at-clause-err
 returns-then-not-is_at-clause-err c kinds all =
     let len : c.len.result ≡ length c.rows.kinds.items = omega (arith, c.len.ensures, c.rows.kinds.ok.0) in
-    wrong_has_none c.args.rows.now c.rows.row-index c.in-Some.place _ c.rows.kinds.items kinds c.rows-test.true
+    wrong_has_none c.args.rows.now c.rows.row-index c.in-Some.index _ c.rows.kinds.items kinds c.rows-test.true
     c.requires.rising c.rows.invariant c.in-Some.ensures
-    (λ e. c.if-place-len.false (e ∙ sym len)) (λ e. false≢true (c.if-not-is_at.ensures.1 (rw c.deref.ensures.value e)))
+    (λ e. c.if-index-len.false (e ∙ sym len)) (λ e. false≢true (c.if-not-is_at.ensures.1 (rw c.deref.ensures.value e)))
     all
 
 pub rows-preserved : goal.rows-preserved
 rows-preserved c =
     let len : c.len.result ≡ length c.rows.kinds.items = omega (arith, c.len.ensures, c.rows.kinds.ok.0) in
-    elim c.if-place-len.branch [
-      | then-place-len+in_ok-push w ↦ rw w.kinds-is (row_next c.args.rows.now c.rows.row-index c.in-Some.place _
-          c.rows.kinds.items _ c.rows-test.true c.rows.invariant c.in-Some.ensures (w.if-place-len.true ∙ len)
+    elim c.if-index-len.branch [
+      | then-index-len+in_ok-push w ↦ rw w.kinds-is (row_next c.args.rows.now c.rows.row-index c.in-Some.index _
+          c.rows.kinds.items _ c.rows-test.true c.rows.invariant c.in-Some.ensures (w.if-index-len.true ∙ len)
           w.in_ok-push.ensures.items)
-      | else-place-len+else-not-is_at w ↦ rw w.kinds-is (row_again c.args.rows.now c.rows.row-index c.in-Some.place _
+      | else-index-len+else-not-is_at w ↦ rw w.kinds-is (row_again c.args.rows.now c.rows.row-index c.in-Some.index _
           c.rows.kinds.items c.rows-test.true c.rows.invariant c.in-Some.ensures
           (rw w.deref.ensures.value at (w.if-not-is_at.ensures.0 refl)))
     ]

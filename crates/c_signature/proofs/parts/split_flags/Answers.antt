@@ -3,7 +3,7 @@ use Rattle.std.proofs.lemmas.List.Sums.{prefix_len-le-length}
 use Rattle.c_signature.specs.Pieces.{is_flag}
 use Rattle.c_signature.proofs.Runs.{run_is}
 use Rattle.c_signature.proofs.PartLemmas.{longest_flags}
-use Rattle.c_macros.proofs.parts.split_flags.Goals as goal
+use Rattle.c_signature.proofs.parts.split_flags.Goals as goal
 
 pub split_at-requires : goal.split_at-requires
 split_at-requires c = omega (arith, c.flags_len.ensures, prefix_len-le-length is_flag c.args.text.now)
