@@ -3,3 +3,4 @@ pub mod Lanes
 pub mod Chain
 pub mod Decimal
 pub mod Front
+pub mod Characters

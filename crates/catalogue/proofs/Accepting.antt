@@ -1,25 +1,19 @@
 -- Messages that list a lawful map: texts, keys in order, the header, and the size of the file.
-use Rattle.std.proofs.Common.{◌≡◌, ◌↔◌, ℕ, zero, suc, ◌+◌, ◌<◌, Bool, true, false, cond, min, max, List, [], ◌∷◌}
-use Rattle.std.proofs.Common.{length, map, get_or, Some, None, Ordering, String, Global, refl, sym}
-use Rattle.std.proofs.Common.{ap, ◌∙◌, subst, arith, add-one, length-append}
-use Rattle.std.specs.Prelude.{IsTrue, option_map, IfSome}
+use Rattle.catalogue.proofs.Kit.{◌≡◌, ℕ, zero, suc, ◌+◌, ◌<◌, Bool, true, false, cond, List, [], ◌∷◌, length, map}
+use Rattle.catalogue.proofs.Kit.{get_or, Some, None, Ordering, refl, sym, ap, ◌∙◌, subst, arith, option_map, IfSome}
+use Rattle.catalogue.proofs.Kit.{AllByRecursion, find, sum_by, join_with_byte, string_bytes, is_lt, Less}
+use Rattle.catalogue.proofs.Kit.{bytes_eq, false≢true, flat_map-cons, sum_by-cons, Entry, key, translation}
+use Rattle.catalogue.proofs.Kit.{Rises, HasAcceptedCharset, pool, message_entry, capped_number, length-with_nul}
+use Rattle.std.proofs.Common.{◌↔◌, min, max, String, Global, add-one, length-append}
+use Rattle.std.specs.Prelude.{IsTrue}
 use Rattle.std.specs.Bool.{MatchBool}
-use Rattle.std.specs.List.{AllByRecursion, AllWithin, HoldsAt, IsAllAdjacentAnswer, find, sum_by, join_with_byte}
-use Rattle.std.specs.String.{string_bytes}
-use Rattle.std.specs.Ordering.{is_lt}
-use Rattle.std.specs.declared.cmp.Ordering.TheVariants.{Less, Equal, Greater}
-use Rattle.std.specs.Str.{bytes_eq}
-use Rattle.std.proofs.lemmas.Bool.{false≢true}
-use Rattle.std.proofs.lemmas.List.Concat.{flat_map-cons}
-use Rattle.std.proofs.lemmas.List.Sums.{sum_by-cons}
-use Rattle.mo_image.specs.Entry.{Entry, key, translation}
-use Rattle.mo_image.specs.Map.{Rises, first_form, header_text, HasAcceptedCharset}
-use Rattle.mo_image.specs.MoFile.{with_nul, pool, spelling, entry_size}
-use Rattle.catalogue.specs.Messages.{message_entry, messages_of}
-use Rattle.catalogue.specs.Sizes.{capped}
+use Rattle.std.specs.List.{AllWithin, HoldsAt, IsAllAdjacentAnswer}
+use Rattle.mo_image.specs.Map.{first_form, header_text}
+use Rattle.mo_image.specs.MoFile.{with_nul, spelling, entry_size}
+use Rattle.catalogue.specs.Messages.{messages_of}
 use Rattle.catalogue.specs.Accepted.{is_below, is_header}
 use Rattle.catalogue.specs.declared.sorted.Message.{Message}
-use Rattle.mo_image.proofs.MoLengths.{length-with_nul, joined_with_nul}
+use Rattle.mo_image.proofs.MoLengths.{joined_with_nul}
 use Rattle.mo_image.proofs.FileSizes.{file_size}
 
 -- ---- tests of each message
@@ -52,25 +46,22 @@ each_decided f P false xs one = (
 
 less_if : (o : Ordering) → is_lt o ≡ true → o ≡ Less
 less_if Less e = refl
-less_if Equal e = absurd (false≢true e)
-less_if Greater e = absurd (false≢true e)
+less_if _ e = absurd (false≢true e)
 
 rises_below : (ms : List Message) → ((k : ℕ) (d : Message) → suc k < length ms → true
     ≡ is_below (get_or ms k d) (get_or ms (suc k) d)) → Rises (map key (messages_of ms))
-rises_below [] all = tt
-rises_below (m ∷ []) all = tt
 rises_below (m ∷ n ∷ ms) all = (
   less_if _ (sym (all 0 m (omega arith))),
   rises_below (n ∷ ms)
       (λ k d lt. all (suc k) d (omega arith)),
 )
+rises_below _ all = tt
 
 not_rising : (ms : List Message) (k : ℕ) → suc k < length ms
     → ((d : Message) → false ≡ is_below (get_or ms k d) (get_or ms (suc k) d)) → Rises (map key (messages_of ms)) → ⊥
-not_rising [] k lt none rises = absurd (omega arith)
-not_rising (m ∷ []) k lt none rises = absurd (omega arith)
 not_rising (m ∷ n ∷ ms) zero lt none rises = false≢true (none m ∙ ap is_lt rises.0)
 not_rising (m ∷ n ∷ ms) (suc k) lt none rises = not_rising (n ∷ ms) k (omega arith) none rises.1
+not_rising _ k lt none rises = absurd (omega arith)
 
 pub rises_decided : (ms : List Message) (r : Bool) → IsAllAdjacentAnswer (λ x y b. b ≡ is_below x y) ms r → IsTrue r
     ↔ Rises (map key (messages_of ms))
@@ -121,7 +112,7 @@ form_size s = length (string_bytes s) + 1
 abbrev pub message_size : Message → ℕ
 message_size m = entry_size (message_entry m)
 
-pub capped_more : (a b : ℕ) → capped (capped a + b) ≡ capped (a + b)
+pub capped_more : (a b : ℕ) → capped_number (capped_number a + b) ≡ capped_number (a + b)
 capped_more a b = omega arith
 
 pub pool_size : (forms : List (String Global)) → length (pool (map (λ s. string_bytes s) forms))

@@ -1,10 +1,9 @@
 -- The texts so far are those of the entries that have been read.
-use Rattle.std.proofs.Common.{◌≡◌, ℕ, ◌+◌, true, false, List, [], ◌∷◌, ◌++◌, length, map, sym, ap, ◌∙◌, inl, inr}
-use Rattle.std.proofs.Common.{arith}
-use Rattle.std.specs.List.{AllByRecursion, flat_map}
+use Rattle.catalogue.proofs.Kit.{◌≡◌, ℕ, ◌+◌, true, false, List, [], ◌∷◌, ◌++◌, length, map, sym, ap, ◌∙◌, inl, inr}
+use Rattle.catalogue.proofs.Kit.{arith, AllByRecursion, flat_map, append-nil, map-append, length-map, flat_map-cons}
+use Rattle.catalogue.proofs.Kit.{Refuses, kind_of, Outline, outline, outlines, outline_of, outlines_from}
+use Rattle.catalogue.proofs.Kit.{IsLawfulMessage, span_of, stored_bytes, HasGathered, Findings, Options, Draft, Span}
 use Rattle.std.proofs.lemmas.Grind.{flat_map-append}
-use Rattle.std.proofs.lemmas.List.{append-nil, map-append, length-map}
-use Rattle.std.proofs.lemmas.List.Concat.{flat_map-cons}
 use Rattle.po_text.specs.Entries as po
 use Rattle.po_text.specs.Outcome as outcome
 use Rattle.po_text.specs.Outcome.{IsReadable, body}
@@ -14,14 +13,7 @@ use Rattle.po_text.specs.declared.reader.EntryReader.{EntryReader}
 use Rattle.po_text.specs.declared.fault.PoKind.{PoKind}
 use Rattle.po_text.specs.declared.fault.PoKind.TheVariants as kinds
 use Rattle.po_checks.specs.Found.{HasFound, LooksAt}
-use Rattle.catalogue.specs.Meaning.{Refuses}
-use Rattle.po_checks.specs.Refusal.{kind_of}
-use Rattle.catalogue.specs.Drafts.{Outline, outline, outlines, outline_of, outlines_from, IsLawfulMessage}
-use Rattle.catalogue.specs.Spans.{span_of, stored, AreTextsOf, HasGathered}
-use Rattle.po_checks.specs.declared.findings.Findings.{Findings}
-use Rattle.po_checks.specs.declared.options.Options.{Options}
-use Rattle.catalogue.specs.declared.drafts.Draft.{Draft}
-use Rattle.catalogue.specs.declared.spans.Span.{Span}
+use Rattle.catalogue.specs.Spans.{AreTextsOf}
 use Rattle.catalogue.proofs.PoEntries.{message_lawful}
 use Rattle.catalogue.proofs.InOrder.{length-outlines_from}
 
@@ -48,18 +40,21 @@ texts_none : (o : Options) (texts : List ℕ) (spans : List Span) → texts ≡ 
 texts_none o texts spans none no_spans = record { texts_are = none; spans_are = no_spans }
 
 texts_more : (o : Options) (texts more : List ℕ) (spans longer : List Span) (span : Span) (es : List po.Entry)
-    (e : po.Entry) → AreTextsOf texts spans (outlines_from o 0 es) → more ≡ texts ++ stored (outline_of o 0 e) → span
+    (e : po.Entry) → AreTextsOf texts spans (outlines_from o 0 es) → more ≡ texts ++ stored_bytes (outline_of o 0 e)
+    → span
     ≡ span_of (outline_of o 0 e) → longer ≡ spans ++ span ∷ []
     → AreTextsOf more longer (outlines_from o 0 (es ++ e ∷ []))
 texts_more o texts more spans longer span es e pool added span_is pushed =
     let rs = outlines_from o 0 es in
     let r = outline_of o (0 + length es) e in
     let all : outlines_from o 0 (es ++ e ∷ []) ≡ rs ++ r ∷ [] = rows_push o 0 es e in
-    let one : flat_map stored (r ∷ []) ≡ stored r = flat_map-cons stored r [] ∙ append-nil (stored r) in
+    let one : flat_map stored_bytes (r ∷ []) ≡ stored_bytes r = flat_map-cons stored_bytes r []
+    ∙ append-nil (stored_bytes r) in
     record {
-      texts_are = added ∙ ap (λ (t : List ℕ). t ++ stored r) pool.texts_are
-          ∙ sym (ap (λ (t : List ℕ). flat_map stored rs ++ t) one) ∙ sym (flat_map-append stored rs (r ∷ []))
-          ∙ sym (ap (flat_map stored) all);
+      texts_are = added ∙ ap (λ (t : List ℕ). t ++ stored_bytes r) pool.texts_are
+          ∙ sym (ap (λ (t : List ℕ). flat_map stored_bytes rs ++ t) one)
+          ∙ sym (flat_map-append stored_bytes rs (r ∷ []))
+          ∙ sym (ap (flat_map stored_bytes) all);
       spans_are = pushed ∙ ap (λ (ss : List Span). ss ++ span ∷ []) pool.spans_are
           ∙ ap (λ (s : Span). map span_of rs ++ s ∷ []) span_is ∙ sym (map-append span_of rs (r ∷ []))
           ∙ sym (ap (map span_of) all);
@@ -84,7 +79,7 @@ collects_none text o reader texts spans findings read none no_spans found = reco
 pub collects_more : (text : List ℕ) (o : Options) (reader next : EntryReader) (texts more : List ℕ)
     (spans longer : List Span) (findings grown : Findings) (span : Span) (e : po.Entry)
     → (c : Collects text o reader texts spans findings) → GoesOn true (body text) c.entries e next → IsLawfulTexts e
-    → more ≡ texts ++ stored (outline_of o 0 e) → span ≡ span_of (outline_of o 0 e) → longer ≡ spans ++ span ∷ []
+    → more ≡ texts ++ stored_bytes (outline_of o 0 e) → span ≡ span_of (outline_of o 0 e) → longer ≡ spans ++ span ∷ []
     → LooksAt o e findings grown → Collects text o next more longer grown
 collects_more text o reader next texts more spans longer findings grown span e c goes lawful added span_is pushed looks
     = record {
@@ -116,12 +111,5 @@ no_memory text line (readable, inr (found, spells, inr (is, early))) = absurd (c
 -- a refusal of the PO text is a refusal by the compiler
 pub text_refuses : (text : List ℕ) (o : Options) (fault : PoKind) (line : ℕ) → outcome.Refuses text fault line
     → Refuses text o (kind_of fault) line
-text_refuses text o kinds.TooLarge line r = r
-text_refuses text o kinds.NotUtf8 line r = r
-text_refuses text o kinds.BadEscape line r = r
-text_refuses text o kinds.OpenString line r = r
-text_refuses text o kinds.BadWord line r = r
-text_refuses text o kinds.BadText line r = r
-text_refuses text o kinds.BadOrder line r = r
-text_refuses text o kinds.BadIndex line r = r
 text_refuses text o kinds.Memory line r = absurd (no_memory text line r)
+text_refuses text o _ line r = r

@@ -1,11 +1,14 @@
 -- What the steps of the compiler add up to.
-use Rattle.std.proofs.Common.{◌≡◌, ℕ, ◌+◌, ◌^◌, ◌<◌, Bool, List, [], ◌∷◌, length, get_or, Option, None, Some, sym, ap}
-use Rattle.std.proofs.Common.{◌∙◌, subst, arith}
-use Rattle.std.specs.Prelude.{IfSome, option_map, if◌then◌else◌}
-use Rattle.std.specs.List.{filter_map, count_by, find}
+use Rattle.catalogue.proofs.Kit.{◌≡◌, ℕ, ◌+◌, ◌^◌, ◌<◌, Bool, List, [], ◌∷◌, length, get_or, Option, None, Some, sym}
+use Rattle.catalogue.proofs.Kit.{ap, ◌∙◌, subst, arith, IfSome, option_map, filter_map, count_by, find, get_or-map}
+use Rattle.catalogue.proofs.Kit.{length-map, HasAcceptedCharset, Means, IsMapOf, Refuses, kept_entries, header_line_of}
+use Rattle.catalogue.proofs.Kit.{Fails, HasDistinctKeys, IsDuplicateAt, IsFirst, Entry, Outline, outline, outlines}
+use Rattle.catalogue.proofs.Kit.{kept_entry, comes_before, counts_as, is_kept_header, IsRepeat, FirstRepeat}
+use Rattle.catalogue.proofs.Kit.{IsFirstRepeat, Findings, Options, Compiled, Draft, Untranslated, Fuzzy, Translated}
+use Rattle.catalogue.proofs.Kit.{LoadKind, TooLarge}
+use Rattle.std.specs.Prelude.{if◌then◌else◌}
 use Rattle.std.specs.List.Sorted.{IsPermutation, IsSortedBy}
 use Rattle.std.specs.Option.{option_map_or}
-use Rattle.std.proofs.lemmas.List.{get_or-map, length-map}
 use Rattle.std.proofs.lemmas.List.Sorted.{IsPermutation-map}
 use denote.Ref.{Bor}
 use Rattle.po_text.specs.Entries as po
@@ -13,25 +16,15 @@ use Rattle.po_text.specs.Outcome.{Gives}
 use Rattle.po_text.proofs.Sizes.{gives_count}
 use Rattle.po_header.specs.Rule.{Rule, HasRuleIn}
 use Rattle.po_checks.specs.Found.{IsFault}
-use Rattle.mo_image.specs.Map.{IsLawful, HasAcceptedCharset}
-use Rattle.mo_image.specs.Map.{header_text as header_of}
+use Rattle.mo_image.specs.Map.{IsLawful, header_text as header_of}
 use Rattle.catalogue.specs.Value.{HasMapRule}
-use Rattle.catalogue.specs.Meaning.{Means, IsMapOf, Refuses, lacking, none_missing}
-use Rattle.po_checks.specs.Kept.{kept, kept_header, header_line_of, header_text_of, HasHeaderRule, NamesAcceptedCharset}
-use Rattle.po_checks.specs.Fails.{Fails, HasDistinctKeys, IsDuplicateAt, IsFirst, IsForeignAt}
-use Rattle.mo_image.specs.Entry.{Entry}
-use Rattle.catalogue.specs.Drafts.{Outline, outline, outlines, kept_entry, comes_before, counts_as, header_text_in}
-use Rattle.catalogue.specs.Drafts.{is_kept_header, IsRepeat, FirstRepeat, IsFirstRepeat, HasCollected}
-use Rattle.po_checks.specs.declared.findings.Findings.{Findings}
-use Rattle.po_checks.specs.declared.options.Options.{Options}
+use Rattle.catalogue.specs.Meaning.{lacking_fields, none_missing}
+use Rattle.po_checks.specs.Kept.{kept_header, header_text_of, HasHeaderRule, NamesAcceptedCharset}
+use Rattle.po_checks.specs.Fails.{IsForeignAt}
+use Rattle.catalogue.specs.Drafts.{header_text_in, HasCollected}
 use Rattle.catalogue.specs.declared.compiler.Stats.{Stats}
-use Rattle.catalogue.specs.declared.compiler.Compiled.{Compiled}
-use Rattle.catalogue.specs.declared.drafts.Draft.{Draft}
-use Rattle.catalogue.specs.declared.body.Standing.TheVariants.{Untranslated, Fuzzy, Translated}
 use Rattle.po_checks.specs.declared.fault.LoadFault.{LoadFault}
-use Rattle.po_checks.specs.declared.fault.LoadKind.{LoadKind}
-use Rattle.po_checks.specs.declared.fault.LoadKind.TheVariants.{TooLarge, NotUtf8, BadEscape, OpenString, BadWord}
-use Rattle.po_checks.specs.declared.fault.LoadKind.TheVariants.{BadText, BadOrder, BadIndex, Duplicate, Charset}
+use Rattle.po_checks.specs.declared.fault.LoadKind.TheVariants.{Duplicate, Charset}
 use Rattle.catalogue.proofs.Collecting.{drafts_are}
 use Rattle.catalogue.proofs.Counting.{untranslated_count, fuzzy_count, translated_count, header_line_is}
 use Rattle.catalogue.proofs.Fitting.{fits}
@@ -44,14 +37,9 @@ use Rattle.po_checks.proofs.Refusals.{all_pass, first_is_check, first_is_duplica
 pub as_refusal : (text : List ℕ) (o : Options) (es : List po.Entry) (kind : LoadKind) (line : ℕ) → Gives text es
     → IsFirst (Fails o es) kind line → Refuses text o kind line
 as_refusal text o es TooLarge line gives f = absurd f.holds
-as_refusal text o es NotUtf8 line gives f = absurd f.holds
-as_refusal text o es BadEscape line gives f = absurd f.holds
-as_refusal text o es OpenString line gives f = absurd f.holds
-as_refusal text o es BadWord line gives f = absurd f.holds
-as_refusal text o es BadText line gives f = absurd f.holds
-as_refusal text o es BadOrder line gives f = absurd f.holds
-as_refusal text o es BadIndex line gives f = absurd f.holds
-as_refusal text o es _ line gives f = (es, gives, f)
+as_refusal text o es kind line gives f =
+    let all : (entries : List po.Entry) × Gives text entries × IsFirst (Fails o entries) kind line = (es, gives, f) in
+    first_of (assumption all, search f.holds)
 
 -- the number of drafts fits in 32 bits
 pub few : (text : List ℕ) (o : Options) (drafts : List Draft) (found : Findings) → HasCollected text o drafts found
@@ -224,7 +212,8 @@ stats_eq s t a b c =
 
 -- the fields that were looked for
 abbrev pub Lacks : Options → Option (Bor (List ℕ)) → List Bool → Type 0
-Lacks o header missing = missing ≡ (if o.checked then lacking (option_map (λ text. text.now) header) else none_missing)
+Lacks o header missing = missing ≡ (if o.checked then lacking_fields (option_map (λ text. text.now) header)
+    else none_missing)
 
 pub compiles : (text : List ℕ) (o : Options) (before after : List Draft) (found : Findings)
     (header : Option (Bor (List ℕ))) (rule : Rule) (m : List Entry) (compiled : Compiled)
@@ -247,11 +236,12 @@ compiles text o before after found header rule m compiled c s none h named has c
       passes = all_pass o c.entries (distinct_keys text o before after found c s none)
           (header_accepted text o before found header compiled.header_line c h named)
           (checks c.entries c.found (rule_is text o before found header compiled.header_line rule c h has) line_is);
-      map_is = subst (IsMapOf (kept o c.entries)) (sym (catalogue_is ∙ kept_are))
+      map_is = subst (IsMapOf (kept_entries o c.entries)) (sym (catalogue_is ∙ kept_are))
           (is_map o c.entries (outlines after) sorted c.lawful (no_repeat after none));
       stats_are = stats_eq compiled.stats _ (counts.translated ∙ translated_count o c.entries before c.rows_are)
           (counts.fuzzy ∙ fuzzy_count o c.entries before c.rows_are)
           (counts.untranslated ∙ untranslated_count o c.entries before c.rows_are);
       header_line_is = line_is;
-      missing_is = missing_are ∙ ap (λ (t : Option (List ℕ)). if o.checked then lacking t else none_missing) text_is;
+      missing_is = missing_are ∙ ap (λ (t : Option (List ℕ)). if o.checked then lacking_fields t else none_missing)
+          text_is;
     }

@@ -1,20 +1,17 @@
 -- The statistics and the header's line, counted over outlines and over entries.
-use Rattle.std.proofs.Common.{◌≡◌, ℕ, ◌+◌, ◌≤◌, Bool, true, false, cond, not, List, [], ◌∷◌, length, Option, Some, None}
-use Rattle.std.proofs.Common.{refl, sym, ap, ◌∙◌, arith}
+use Rattle.catalogue.proofs.Kit.{◌≡◌, ℕ, ◌+◌, ◌≤◌, Bool, true, false, cond, List, [], ◌∷◌, length, Option, Some, None}
+use Rattle.catalogue.proofs.Kit.{refl, sym, ap, ◌∙◌, arith, find, count_by, sum_by-cons, is_kept, kept_entries}
+use Rattle.catalogue.proofs.Kit.{header_line_of, Kept, Outline, outline, outlines, outline_of, outlines_from, texts_of}
+use Rattle.catalogue.proofs.Kit.{counts_as, is_kept_header, Options, Draft, Untranslated, Fuzzy, Translated}
+use Rattle.std.proofs.Common.{not}
 use Rattle.std.specs.Prelude.{◌&&◌, is_some, if◌then◌else◌}
-use Rattle.std.specs.List.{find, count_by}
 use Rattle.std.specs.Option.{option_map_or}
-use Rattle.std.proofs.lemmas.List.Sums.{sum_by-cons}
 use Rattle.po_text.specs.Entries as po
-use Rattle.po_checks.specs.Kept.{is_header, is_untranslated, is_kept, kept, header_line_of}
-use Rattle.catalogue.specs.Meaning.{is_fuzzy, is_translated, counted}
-use Rattle.catalogue.specs.Body.{Kept}
-use Rattle.catalogue.specs.Drafts.{Outline, outline, outlines, outline_of, outlines_from, standing_of, texts_of}
-use Rattle.catalogue.specs.Drafts.{same_standing, counts_as, is_kept_header}
-use Rattle.po_checks.specs.declared.options.Options.{Options}
-use Rattle.catalogue.specs.declared.drafts.Draft.{Draft}
+use Rattle.po_checks.specs.Kept.{is_header, is_untranslated}
+use Rattle.catalogue.specs.Meaning.{is_fuzzy, is_translated, counted_entries}
+use Rattle.catalogue.specs.Drafts.{standing_of, same_standing}
 use Rattle.catalogue.specs.declared.body.Standing.{Standing}
-use Rattle.catalogue.specs.declared.body.Standing.TheVariants.{Header, Untranslated, Fuzzy, Translated}
+use Rattle.catalogue.specs.declared.body.Standing.TheVariants.{Header}
 
 abbrev one_if : {X : Type 0} → (X → Bool) → X → ℕ
 one_if p x = cond (p x) 1 0
@@ -30,65 +27,57 @@ over_outlines s (d ∷ ds) = sum_by-cons (λ x. one_if (counts_as s) (outline x)
 
 over_entries : (o : Options) (s : Standing) (q : po.Entry → Bool)
     → ((e : po.Entry) → same_standing (standing_of e) s ≡ (not (is_header e) && q e)) → (k : ℕ) (es : List po.Entry)
-    → count_by (counts_as s) (outlines_from o k es) ≡ count_by q (counted es)
+    → count_by (counts_as s) (outlines_from o k es) ≡ count_by q (counted_entries es)
 over_entries o s q says k [] = refl
 over_entries o s q says k (e ∷ es) =
     let rest = over_entries o s q says (k + 1) es in
     sum_by-cons (one_if (counts_as s)) (outline_of o k e) (outlines_from o (k + 1) es)
     ∙ ap (λ n. one_if (counts_as s) (outline_of o k e) + n) rest
-    ∙ ap (λ b. cond b 1 0 + count_by q (counted es)) (says e) ∙ of (is_header e) refl
+    ∙ ap (λ b. cond b 1 0 + count_by q (counted_entries es)) (says e) ∙ of (is_header e) refl
   where
-    of : (h : Bool) → is_header e ≡ h → cond (not (is_header e) && q e) 1 0 + count_by q (counted es)
-        ≡ count_by q (cond (not (is_header e)) (e ∷ counted es) (counted es))
+    of : (h : Bool) → is_header e ≡ h → cond (not (is_header e) && q e) 1 0 + count_by q (counted_entries es)
+        ≡ count_by q (cond (not (is_header e)) (e ∷ counted_entries es) (counted_entries es))
     of true is = rw is (omega arith)
-    of false is = rw is (sym (sum_by-cons (one_if q) e (counted es)))
+    of false is = rw is (sym (sum_by-cons (one_if q) e (counted_entries es)))
 
 abbrev stands_so : Bool → Bool → Bool → Standing
 stands_so h u f = if h then Header else if u then Untranslated else if f then Fuzzy else Translated
 
 untranslated_so : (h u f : Bool) → same_standing (stands_so h u f) Untranslated ≡ (not h && u)
-untranslated_so true u f = refl
-untranslated_so false true f = refl
 untranslated_so false false true = refl
-untranslated_so false false false = refl
+untranslated_so _ _ _ = refl
 
 fuzzy_so : (h u f : Bool) → same_standing (stands_so h u f) Fuzzy ≡ (not h && (not u && f))
-fuzzy_so true u f = refl
-fuzzy_so false true f = refl
 fuzzy_so false false true = refl
-fuzzy_so false false false = refl
+fuzzy_so _ _ _ = refl
 
 translated_so : (h u f : Bool) → same_standing (stands_so h u f) Translated ≡ (not h && (not u && not f))
-translated_so true u f = refl
-translated_so false true f = refl
 translated_so false false true = refl
-translated_so false false false = refl
+translated_so _ _ _ = refl
 
 header_so : (h u f : Bool) → same_standing (stands_so h u f) Header ≡ h
-header_so true u f = refl
-header_so false true f = refl
 header_so false false true = refl
-header_so false false false = refl
+header_so _ _ _ = refl
 
 abbrev pub AreOutlines : Options → List po.Entry → List Draft → Type 0
 AreOutlines o es ds = outlines ds ≡ outlines_from o 0 es
 
 count_of : (o : Options) (es : List po.Entry) (ds : List Draft) (s : Standing) (q : po.Entry → Bool)
     → AreOutlines o es ds → ((e : po.Entry) → same_standing (standing_of e) s ≡ (not (is_header e) && q e))
-    → count_by (λ d. counts_as s (outline d)) ds ≡ count_by q (counted es)
+    → count_by (λ d. counts_as s (outline d)) ds ≡ count_by q (counted_entries es)
 count_of o es ds s q are says = over_outlines s ds ∙ ap (count_by (counts_as s)) are ∙ over_entries o s q says 0 es
 
 pub untranslated_count : (o : Options) (es : List po.Entry) (ds : List Draft) → AreOutlines o es ds
-    → count_by (λ d. counts_as Untranslated (outline d)) ds ≡ count_by is_untranslated (counted es)
+    → count_by (λ d. counts_as Untranslated (outline d)) ds ≡ count_by is_untranslated (counted_entries es)
 untranslated_count o es ds are = count_of o es ds Untranslated is_untranslated are
     (λ e. untranslated_so (is_header e) (is_untranslated e) e.fuzzy)
 
 pub fuzzy_count : (o : Options) (es : List po.Entry) (ds : List Draft) → AreOutlines o es ds
-    → count_by (λ d. counts_as Fuzzy (outline d)) ds ≡ count_by is_fuzzy (counted es)
+    → count_by (λ d. counts_as Fuzzy (outline d)) ds ≡ count_by is_fuzzy (counted_entries es)
 fuzzy_count o es ds are = count_of o es ds Fuzzy is_fuzzy are (λ e. fuzzy_so (is_header e) (is_untranslated e) e.fuzzy)
 
 pub translated_count : (o : Options) (es : List po.Entry) (ds : List Draft) → AreOutlines o es ds
-    → count_by (λ d. counts_as Translated (outline d)) ds ≡ count_by is_translated (counted es)
+    → count_by (λ d. counts_as Translated (outline d)) ds ≡ count_by is_translated (counted_entries es)
 translated_count o es ds are = count_of o es ds Translated is_translated are
     (λ e. translated_so (is_header e) (is_untranslated e) e.fuzzy)
 
@@ -136,9 +125,8 @@ line_or : (h t : Bool) (r : Outline) (e : po.Entry) (x : Option Outline) (y : Op
     → option_map_or (λ (r : Outline). r.line) (cond (h && t) (Some r) x) 0
     ≡ option_map_or (λ (e : po.Entry). e.line) (cond t (cond h (Some e) y) y) 0
 line_or true true r e x y same rest = same
-line_or true false r e x y same rest = rest
 line_or false true r e x y same rest = rest
-line_or false false r e x y same rest = rest
+line_or _ _ r e x y same rest = rest
 
 line_over_entries : (o : Options) (k : ℕ) (es : List po.Entry)
     → option_map_or (λ (r : Outline). r.line) (find is_kept_header (outlines_from o k es)) 0 ≡ header_line_of o es
@@ -147,9 +135,9 @@ line_over_entries o k (e ∷ es) =
     ap (λ b. option_map_or (λ (r : Outline). r.line) (cond b (Some (outline_of o k e))
     (find is_kept_header (outlines_from o (k + 1) es))) 0) (header_outline o k e)
     ∙ line_or (is_header e) (is_kept o e) (outline_of o k e) e (find is_kept_header (outlines_from o (k + 1) es))
-    (find is_header (kept o es)) refl (line_over_entries o (k + 1) es)
+    (find is_header (kept_entries o es)) refl (line_over_entries o (k + 1) es)
     ∙ sym (ap (λ (x : Option po.Entry). option_map_or (λ (e : po.Entry). e.line) x 0)
-    (split_find (is_kept o e) e (kept o es)))
+    (split_find (is_kept o e) e (kept_entries o es)))
 
 pub header_line_is : (o : Options) (es : List po.Entry) (ds : List Draft) → AreOutlines o es ds
     → option_map_or (λ d. d.line) (find (λ d. is_kept_header (outline d)) ds) 0 ≡ header_line_of o es

@@ -1,23 +1,20 @@
 -- A text within its size limit has a catalogue whose MO file is within its own.
-use Rattle.std.proofs.Common.{◌≡◌, ℕ, ◌+◌, ◌^◌, ◌<◌, ◌≤◌, Bool, true, false, List, [], ◌∷◌, length, Option, Some, None}
-use Rattle.std.proofs.Common.{refl, ap, ◌∙◌, arith, length-append}
-use Rattle.std.specs.List.{AllByRecursion, cons_option, flat_map, sum_by}
-use Rattle.std.proofs.lemmas.List.{length-map}
-use Rattle.std.proofs.lemmas.List.Concat.{flat_map-cons}
-use Rattle.std.proofs.lemmas.List.Sums.{sum_by-cons}
+use Rattle.catalogue.proofs.Kit.{◌≡◌, ℕ, ◌+◌, ◌^◌, ◌<◌, ◌≤◌, Bool, true, false, List, [], ◌∷◌, length, Option, Some}
+use Rattle.catalogue.proofs.Kit.{None, refl, ap, ◌∙◌, arith, AllByRecursion, flat_map, sum_by, length-map}
+use Rattle.catalogue.proofs.Kit.{flat_map-cons, sum_by-cons, Entry, translation, pool, message_of, is_kept, Outline}
+use Rattle.catalogue.proofs.Kit.{outline_of, outlines_from, kept_entry, texts_of, span_of, stored_bytes, HasGathered}
+use Rattle.catalogue.proofs.Kit.{Span, Findings, Options, length-with_nul}
+use Rattle.std.proofs.Common.{length-append}
+use Rattle.std.specs.List.{cons_option}
 use Rattle.std.proofs.lemmas.List.Sorted.{sum_by-IsPermutation}
 use Rattle.po_text.specs.Entries as po
 use Rattle.po_text.specs.Outcome.{Gives}
 use Rattle.po_text.proofs.Sizes.{option_size, forms_size, entry_size, entries_size, gives_count, gives_size}
-use Rattle.mo_image.specs.Entry.{Entry, key_bytes, with_plural, original, translation}
-use Rattle.mo_image.specs.MoFile.{with_nul, pool, spelling, entry_size as size}
-use Rattle.po_checks.specs.Kept.{message_of, is_kept}
-use Rattle.catalogue.specs.Drafts.{Outline, outline_of, outlines_from, kept_entry, texts_if_kept, texts_of}
-use Rattle.catalogue.specs.Spans.{bytes_if_kept, kept_bytes, plural_bytes, span_of, stored, HasGathered}
-use Rattle.catalogue.specs.declared.spans.Span.{Span}
-use Rattle.po_checks.specs.declared.findings.Findings.{Findings}
-use Rattle.po_checks.specs.declared.options.Options.{Options}
-use Rattle.mo_image.proofs.MoLengths.{length-with_nul, joined_with_nul}
+use Rattle.mo_image.specs.Entry.{key_bytes, with_plural, original}
+use Rattle.mo_image.specs.MoFile.{with_nul, spelling, entry_size as size}
+use Rattle.catalogue.specs.Drafts.{texts_if_kept}
+use Rattle.catalogue.specs.Spans.{bytes_if_kept, kept_bytes, plural_bytes}
+use Rattle.mo_image.proofs.MoLengths.{joined_with_nul}
 use Rattle.mo_image.proofs.FileSizes.{file_size}
 use Rattle.mo_image.proofs.EntryParts.{some_form}
 use Rattle.catalogue.proofs.InOrder.{AreOrdered, length-outlines_from}
@@ -129,7 +126,7 @@ if_kept_fits o e lawful = of (is_kept o e) refl
     of true is = rw is (kept_fits e lawful)
     of false is = rw is (omega arith)
 
-stored_fits : (o : Options) (k : ℕ) (e : po.Entry) → Lawful e → length (stored (outline_of o k e)) ≤ entry_size e
+stored_fits : (o : Options) (k : ℕ) (e : po.Entry) → Lawful e → length (stored_bytes (outline_of o k e)) ≤ entry_size e
 stored_fits o k e lawful = omega (
   arith,
   length-append (key_bytes e.context e.id) (bytes_if_kept (texts_if_kept o e)),
@@ -138,15 +135,15 @@ stored_fits o k e lawful = omega (
 )
 
 all_stored : (o : Options) (k : ℕ) (es : List po.Entry) → AllByRecursion Lawful es
-    → length (flat_map stored (outlines_from o k es)) ≤ entries_size es
+    → length (flat_map stored_bytes (outlines_from o k es)) ≤ entries_size es
 all_stored o k [] lawful = omega arith
 all_stored o k (e ∷ es) lawful =
     let r = outline_of o k e in
     let rs = outlines_from o (k + 1) es in
     omega (
       arith,
-      ap length (flat_map-cons stored r rs),
-      length-append (stored r) (flat_map stored rs),
+      ap length (flat_map-cons stored_bytes r rs),
+      length-append (stored_bytes r) (flat_map stored_bytes rs),
       stored_fits o k e lawful.0,
       all_stored o (k + 1) es lawful.1,
     )

@@ -1,25 +1,19 @@
 -- The header among the drafts is that of the text, and the catalogue's.
-use Rattle.std.proofs.Common.{◌≡◌, ℕ, ◌+◌, ◌<◌, Bool, true, false, cond, List, [], ◌∷◌, length, map, get_or, Option}
-use Rattle.std.proofs.Common.{Some, None, refl, sym, ap, ◌∙◌, subst, arith, inl, inr}
-use Rattle.std.specs.Prelude.{◌&&◌, ◌⊎◌, ◌==◌, Contains, IfSome, is_none, option_map}
-use Rattle.std.specs.List.{AllByRecursion, find, slice_split}
-use Rattle.std.specs.Str.{bytes_eq}
-use Rattle.std.proofs.lemmas.Bool.{cases_lt, false≢true}
-use Rattle.std.proofs.lemmas.List.{get_or-map, get_or_default, length-map}
-use Rattle.std.proofs.lemmas.List.Elements.{All-contains}
+use Rattle.catalogue.proofs.Kit.{◌≡◌, ℕ, ◌+◌, ◌<◌, Bool, true, false, cond, List, [], ◌∷◌, length, map, get_or, Option}
+use Rattle.catalogue.proofs.Kit.{Some, None, refl, sym, ap, ◌∙◌, subst, arith, inl, inr, ◌⊎◌, Contains, IfSome}
+use Rattle.catalogue.proofs.Kit.{option_map, AllByRecursion, find, bytes_eq, cases_lt, false≢true, get_or-map}
+use Rattle.catalogue.proofs.Kit.{get_or_default, length-map, All-contains, Entry, key, translation, HasAcceptedCharset}
+use Rattle.catalogue.proofs.Kit.{message_of, key_of, is_kept, kept_entries, HasDistinctKeys, IsMapOf, Kept, Outline}
+use Rattle.catalogue.proofs.Kit.{outline, outlines, outline_of, outlines_from, texts_of, is_kept_header}
+use Rattle.catalogue.proofs.Kit.{IsLawfulMessage, Options, Draft}
+use Rattle.std.specs.Prelude.{◌&&◌, ◌==◌, is_none}
+use Rattle.std.specs.List.{slice_split}
 use Rattle.std.proofs.lemmas.Slice.Eq.{bytes_eq-Decides}
 use Rattle.po_text.specs.Entries as po
-use Rattle.mo_image.specs.Entry.{Entry, key, key_bytes, translation}
-use Rattle.mo_image.specs.Map.{entry_at, first_form, header_text, HasAcceptedCharset}
-use Rattle.po_checks.specs.Kept.{message_of, key_of, is_empty, is_header, is_kept, kept, kept_header, header_text_of}
-use Rattle.po_checks.specs.Kept.{NamesAcceptedCharset}
-use Rattle.po_checks.specs.Fails.{HasDistinctKeys}
-use Rattle.catalogue.specs.Meaning.{IsMapOf}
-use Rattle.catalogue.specs.Body.{Kept}
-use Rattle.catalogue.specs.Drafts.{Outline, outline, outlines, outline_of, outlines_from, texts_of, outline_text}
-use Rattle.catalogue.specs.Drafts.{text_found, header_text_in, is_kept_header, IsLawfulMessage}
-use Rattle.po_checks.specs.declared.options.Options.{Options}
-use Rattle.catalogue.specs.declared.drafts.Draft.{Draft}
+use Rattle.mo_image.specs.Entry.{key_bytes}
+use Rattle.mo_image.specs.Map.{entry_at, first_form, header_text}
+use Rattle.po_checks.specs.Kept.{is_empty, is_header, kept_header, header_text_of, NamesAcceptedCharset}
+use Rattle.catalogue.specs.Drafts.{outline_text, text_found, header_text_in}
 use Rattle.catalogue.proofs.Counting.{AreOutlines, header_outline, split_find}
 use Rattle.mo_image.proofs.EntryParts.{split_joined, some_form, lack_nul}
 use Rattle.catalogue.proofs.Members.{has_head, has_tail, has_cases, has_map, from_map, from_filter, from_find}
@@ -35,15 +29,12 @@ pub record IsRowOf (o : Options) (es : List po.Entry) (r : Outline) (e : po.Entr
 -- an outline and an entry were found, or neither
 abbrev Found : Options → List po.Entry → Option Outline → Option po.Entry → Type 0
 Found o es None None = Unit {0}
-Found o es None (Some e) = ⊥
-Found o es (Some r) None = ⊥
 Found o es (Some r) (Some e) = IsRowOf o es r e
+Found o es _ _ = ⊥
 
 longer : (o : Options) (x : po.Entry) (es : List po.Entry) (r : Option Outline) (e : Option po.Entry) → Found o es r e
     → Found o (x ∷ es) r e
 longer o x es None None f = tt
-longer o x es None (Some e) f = f
-longer o x es (Some r) None f = f
 longer o x es (Some r) (Some e) f = record {
   number = f.number;
   is = f.is;
@@ -52,6 +43,7 @@ longer o x es (Some r) (Some e) f = record {
       f.is_kept;
   lawful = f.lawful;
 }
+longer o x es _ _ f = f
 
 step : (o : Options) (k : ℕ) (e : po.Entry) (es : List po.Entry) (h t : Bool) (r : Option Outline) (x : Option po.Entry)
     → is_kept o e ≡ t → IsLawfulMessage e → Found o es r x → Found o (e ∷ es)
@@ -63,9 +55,8 @@ step o k e es true true r x is lawful f = record {
   is_kept = is;
   lawful = lawful;
 }
-step o k e es true false r x is lawful f = longer o e es r x f
 step o k e es false true r x is lawful f = longer o e es r x f
-step o k e es false false r x is lawful f = longer o e es r x f
+step o k e es _ _ r x is lawful f = longer o e es r x f
 
 found : (o : Options) (k : ℕ) (es : List po.Entry) → AllByRecursion IsLawfulMessage es
     → Found o es (find is_kept_header (outlines_from o k es)) (kept_header o es)
@@ -75,7 +66,7 @@ found o k (e ∷ es) lawful =
     let R : Bool → Type 0 = λ b. Found o (e ∷ es) (cond b (Some (outline_of o k e)) rest) (kept_header o (e ∷ es)) in
     let X : Option po.Entry → Type 0 = λ x. Found o (e ∷ es)
     (cond (is_header e && is_kept o e) (Some (outline_of o k e)) rest) x in
-    subst R (sym (header_outline o k e)) (subst X (sym (split_find (is_kept o e) e (kept o es)))
+    subst R (sym (header_outline o k e)) (subst X (sym (split_find (is_kept o e) e (kept_entries o es)))
     (step o k e es (is_header e) (is_kept o e) rest (kept_header o es) refl lawful.0 (found o (k + 1) es lawful.1)))
 
 -- ---- what it names
@@ -95,9 +86,8 @@ row_text_is o es r e f = ap (option_map (λ (t : Kept). first_form (slice_split 
 text_is : (o : Options) (es : List po.Entry) (r : Option Outline) (e : Option po.Entry) → Found o es r e → text_found r
     ≡ option_map (λ e. first_form e.forms) e
 text_is o es None None f = refl
-text_is o es None (Some e) f = absurd f
-text_is o es (Some r) None f = absurd f
 text_is o es (Some r) (Some e) f = row_text_is o es r e f
+text_is o es _ _ f = absurd f
 
 find_outlines : (ds : List Draft) → option_map outline (find (λ d. is_kept_header (outline d)) ds)
     ≡ find is_kept_header (outlines ds)
@@ -163,15 +153,13 @@ one_of es x y distinct (i, li, ix) (j, lj, jy) same =
 -- the entry with the empty key is the header
 no_key : (context : Option (List ℕ)) (id : List ℕ) → key_bytes context id ≡ [] → (is_none context && is_empty id) ≡ true
 no_key None [] e = refl
-no_key None (b ∷ id) e = absurd cc
 no_key (Some []) id e = absurd cc
-no_key (Some (b ∷ context)) id e = absurd cc
+no_key _ _ e = absurd cc
 
 header_key : (context : Option (List ℕ)) (id : List ℕ) → (is_none context && is_empty id) ≡ true → key_bytes context id
     ≡ []
 header_key None [] e = refl
-header_key None (b ∷ id) e = absurd (false≢true e)
-header_key (Some context) id e = absurd (false≢true e)
+header_key _ _ e = absurd (false≢true e)
 
 -- what a search finds passes and is a member; if a member passes, the search finds something
 pub record Finds {X : Type 0} (p : X → Bool) (es : List X) (e : X) : Type 0 where
@@ -196,15 +184,16 @@ finds p (x ∷ es) e has passes = of (p x) refl (has_cases e x es has) (λ h. fi
     }
 
 -- an entry of the catalogue with the empty key is the kept header's message
-catalogued : (o : Options) (es : List po.Entry) (m : List Entry) → IsMapOf (kept o es) m → HasDistinctKeys es
+catalogued : (o : Options) (es : List po.Entry) (m : List Entry) → IsMapOf (kept_entries o es) m → HasDistinctKeys es
     → (x : Entry) → entry_at m [] ≡ Some x → Some (first_form x.forms) ≡ header_text_of o es
 catalogued o es m is distinct x at =
     let here = from_find (λ (e : Entry). bytes_eq (key e) []) m x at in
     let no_key_of : key x ≡ [] = (bytes_eq-Decides (key x) []).0 here.1 in
-    let (e, has, same) = from_map message_of (kept o es) x (All-contains (Contains (map message_of (kept o es))) m x
+    let (e, has, same) = from_map message_of (kept_entries o es) x
+    (All-contains (Contains (map message_of (kept_entries o es))) m x
     is.nothing_else here.0) in
     let e_key : key_of e ≡ [] = ap key same ∙ no_key_of in
-    let h = finds is_header (kept o es) e has (no_key e.context e.id e_key) in
+    let h = finds is_header (kept_entries o es) e has (no_key e.context e.id e_key) in
     let h_key : key_of h.found ≡ [] = header_key h.found.context h.found.id h.passes in
     let one : e ≡ h.found = one_of es e h.found distinct (from_filter (is_kept o) es e has)
     (from_filter (is_kept o) es h.found h.has) (e_key ∙ sym h_key) in
@@ -212,12 +201,13 @@ catalogued o es m is distinct x at =
     ∙ sym (ap (option_map (λ (e : po.Entry). first_form e.forms)) h.is)
 
 -- the catalogue has the message of the kept header
-uncatalogued : (o : Options) (es : List po.Entry) (m : List Entry) → IsMapOf (kept o es) m → entry_at m [] ≡ None
+uncatalogued : (o : Options) (es : List po.Entry) (m : List Entry) → IsMapOf (kept_entries o es) m → entry_at m []
+    ≡ None
     → (e : po.Entry) → kept_header o es ≡ Some e → ⊥
 uncatalogued o es m is at e header =
-    let here = from_find is_header (kept o es) e header in
-    let has : Contains m (message_of e) = All-contains (Contains m) (map message_of (kept o es)) (message_of e)
-    is.listed (has_map message_of (kept o es) e here.0) in
+    let here = from_find is_header (kept_entries o es) e header in
+    let has : Contains m (message_of e) = All-contains (Contains m) (map message_of (kept_entries o es)) (message_of e)
+    is.listed (has_map message_of (kept_entries o es) e here.0) in
     let f = finds (λ (x : Entry). bytes_eq (key x) []) m (message_of e) has
     ((bytes_eq-Decides (key_of e) []).1 (header_key e.context e.id here.1)) in
     absurd (none_is_some (sym at ∙ f.is))
@@ -226,7 +216,7 @@ uncatalogued o es m is at e header =
     none_is_some e = absurd cc
 
 -- the header's text in the catalogue is that of the kept header
-pub map_text : (o : Options) (es : List po.Entry) (m : List Entry) → IsMapOf (kept o es) m → HasDistinctKeys es
+pub map_text : (o : Options) (es : List po.Entry) (m : List Entry) → IsMapOf (kept_entries o es) m → HasDistinctKeys es
     → header_text m ≡ header_text_of o es
 map_text o es m is distinct = of (entry_at m []) (kept_header o es) refl refl
   where

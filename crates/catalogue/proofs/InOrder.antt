@@ -1,26 +1,21 @@
 -- The outlines of a text in rising order: where a key occurs twice, and which entry repeats it first.
-use Rattle.std.proofs.Common.{◌≡◌, ℕ, zero, suc, ◌+◌, ◌-◌, ◌<◌, ◌≤◌, Bool, true, false, cond, eqb, List, [], ◌∷◌, ◌++◌}
-use Rattle.std.proofs.Common.{length, map, get_or, take, drop, Ordering, refl, sym, ap, ◌∙◌, subst, arith, inl, inr}
-use Rattle.std.specs.Prelude.{Contains}
-use Rattle.std.specs.List.{sum_by}
-use Rattle.std.proofs.lemmas.List.Sums.{sum_by-cons}
+use Rattle.catalogue.proofs.Kit.{◌≡◌, ℕ, zero, suc, ◌+◌, ◌<◌, ◌≤◌, Bool, true, false, cond, List, [], ◌∷◌, ◌++◌, length}
+use Rattle.catalogue.proofs.Kit.{map, get_or, take, Ordering, refl, sym, ap, ◌∙◌, subst, arith, inl, inr, Contains}
+use Rattle.catalogue.proofs.Kit.{sum_by, sum_by-cons, nat_cmp, is_lt, Less, Equal, Greater, IsTotalOrder, slice_cmp}
+use Rattle.catalogue.proofs.Kit.{slice_cmp-IsAntisymmetric, nat_cmp-IsAntisymmetric, cases_lt, false≢true}
+use Rattle.catalogue.proofs.Kit.{nat_list_cmp_total, get_or-map, length-map, get_or_default, key_of, IsDuplicateAt}
+use Rattle.catalogue.proofs.Kit.{HasDistinctKeys, Outline, outline_of, outlines_from, IsRepeat, IsFirstRepeat, Options}
+use Rattle.std.proofs.Common.{◌-◌, eqb, drop}
 use Rattle.std.specs.List.Sorted.{IsPermutation, IsSortedBy}
-use Rattle.std.specs.Ordering.{nat_cmp, ordering_then, ordering_reverse, is_lt}
-use Rattle.std.specs.declared.cmp.Ordering.TheVariants.{Less, Equal, Greater}
-use Rattle.std.specs.Cmp.{IsStrictWeakOrder, IsTotalOrder}
-use Rattle.std.specs.Cmp.Lexicographic.{slice_cmp}
-use Rattle.std.specs.FinMap.{slice_cmp-IsAntisymmetric, nat_cmp-IsAntisymmetric}
-use Rattle.std.proofs.lemmas.Bool.{cases_lt, false≢true, eqb-true, eqb-false}
-use Rattle.std.proofs.lemmas.Cmp.{nat_list_cmp_total, tied_itself}
-use Rattle.std.proofs.lemmas.List.{get_or-map, length-map, get_or-take, get_or_default, length-take-le}
-use Rattle.std.proofs.lemmas.List.{take-append-drop, drop_more}
+use Rattle.std.specs.Ordering.{ordering_then, ordering_reverse}
+use Rattle.std.specs.Cmp.{IsStrictWeakOrder}
+use Rattle.std.proofs.lemmas.Bool.{eqb-true, eqb-false}
+use Rattle.std.proofs.lemmas.Cmp.{tied_itself}
+use Rattle.std.proofs.lemmas.List.{get_or-take, length-take-le, take-append-drop, drop_more}
 use Rattle.std.proofs.lemmas.List.Sorted.{ranks_by, sorted_far, Contains-permutation, IsPermutation-sym}
 use Rattle.std.proofs.lemmas.List.Sorted.{sum_by-IsPermutation}
 use Rattle.po_text.specs.Entries as po
-use Rattle.po_checks.specs.Kept.{key_of}
-use Rattle.po_checks.specs.Fails.{IsDuplicateAt, HasDistinctKeys}
-use Rattle.catalogue.specs.Drafts.{Outline, outline_cmp, outline_of, outlines_from, IsRepeat, IsFirstRepeat}
-use Rattle.po_checks.specs.declared.options.Options.{Options}
+use Rattle.catalogue.specs.Drafts.{outline_cmp}
 use Rattle.mo_image.proofs.Lists.{differs}
 use Rattle.catalogue.proofs.OutlineOrder.{row_total}
 

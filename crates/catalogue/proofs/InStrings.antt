@@ -1,14 +1,12 @@
 -- The strings of the messages so far, and the messages of the rest.
-use Rattle.std.proofs.Common.{◌≡◌, ℕ, List, [], ◌∷◌, ◌++◌, map, Some, option_map, String, Global, sym, ap, ◌∙◌, subst}
-use Rattle.std.proofs.Common.{append_assoc}
+use Rattle.catalogue.proofs.Kit.{◌≡◌, ℕ, List, [], ◌∷◌, ◌++◌, map, Some, sym, ap, ◌∙◌, subst, append_assoc}
+use Rattle.catalogue.proofs.Kit.{AllByRecursion, string_bytes, map-append, append-nil, Entry, key, translation}
+use Rattle.catalogue.proofs.Kit.{IsLawfulEntry, message_entry}
+use Rattle.std.proofs.Common.{option_map, String, Global}
 use Rattle.std.specs.Prelude.{slice_get}
-use Rattle.std.specs.List.{AllByRecursion}
-use Rattle.std.specs.String.{string_bytes}
-use Rattle.std.proofs.lemmas.List.{map-append, append-nil}
 use Rattle.std.proofs.lemmas.Option.{slice_get-map}
-use Rattle.mo_image.specs.Entry.{Entry, key, translation, IsLawfulEntry}
 use Rattle.mo_image.specs.Map.{IsLawful}
-use Rattle.catalogue.specs.Messages.{message_entry, messages_of}
+use Rattle.catalogue.specs.Messages.{messages_of}
 use Rattle.mo_image.specs.Stored.{stored_entry, stored_entries}
 use Rattle.mo_image.specs.Parts.{entry_from}
 use Rattle.mo_image.specs.declared.messages.OwnedStrings.{OwnedStrings}

@@ -1,11 +1,8 @@
 -- The drafts that are kept, as entries.
-use Rattle.std.proofs.Common.{◌≡◌, Bool, List, [], ◌∷◌, Option, Some, None, refl, ap}
+use Rattle.catalogue.proofs.Kit.{◌≡◌, Bool, List, [], ◌∷◌, Option, Some, None, refl, ap, filter, filter_map, Entry}
+use Rattle.catalogue.proofs.Kit.{outlines, kept_entry, Draft, Kept}
 use Rattle.std.specs.Prelude.{is_some}
-use Rattle.std.specs.List.{filter, filter_map}
-use Rattle.mo_image.specs.Entry.{Entry}
-use Rattle.catalogue.specs.Drafts.{outlines, kept_entry, entry_with, drafts_entries}
-use Rattle.catalogue.specs.declared.drafts.Draft.{Draft}
-use Rattle.catalogue.specs.Body.{Kept}
+use Rattle.catalogue.specs.Drafts.{entry_with, drafts_entries}
 
 abbrev pub has_texts : Draft → Bool
 has_texts d = is_some d.body.texts

@@ -1,27 +1,21 @@
 -- The pool of the entries that were read lends their outlines.
-use Rattle.std.proofs.Common.{◌≡◌, ℕ, suc, ◌+◌, ◌^◌, ◌<◌, ◌≤◌, true, false, Bool, List, [], ◌∷◌, ◌++◌, length, map}
-use Rattle.std.proofs.Common.{take, drop, slice_get, Option, Some, None, refl, sym, ap, ◌∙◌, subst, append_assoc, arith}
-use Rattle.std.specs.Prelude.{IfSome}
-use Rattle.std.specs.List.{AllByRecursion, flat_map}
+use Rattle.catalogue.proofs.Kit.{◌≡◌, ℕ, suc, ◌+◌, ◌^◌, ◌<◌, ◌≤◌, true, false, Bool, List, [], ◌∷◌, ◌++◌, length, map}
+use Rattle.catalogue.proofs.Kit.{take, Option, Some, None, refl, sym, ap, ◌∙◌, subst, append_assoc, arith, IfSome}
+use Rattle.catalogue.proofs.Kit.{AllByRecursion, flat_map, append-nil, map-append, flat_map-cons, IsText, message_of}
+use Rattle.catalogue.proofs.Kit.{is_kept, Outline, outline, outlines, outline_of, outlines_from, IsLawfulMessage, Kept}
+use Rattle.catalogue.proofs.Kit.{stored_bytes, span_of, HasGathered, Findings, Options, Draft, Span}
+use Rattle.std.proofs.Common.{drop, slice_get}
 use Rattle.std.specs.Str.{IsUtf8, IsCharBoundary}
 use Rattle.std.proofs.Math.ListN.{drop_of_length-le}
 use Rattle.std.proofs.Math.Seq.{take-append_seam, drop-append_seam, drop-cons}
-use Rattle.std.proofs.lemmas.List.{append-nil, length-append, length-drop, map-append}
-use Rattle.std.proofs.lemmas.List.Concat.{flat_map-cons}
+use Rattle.std.proofs.lemmas.List.{length-append, length-drop}
 use Rattle.std.proofs.lemmas.Option.{get_or_from_slice_get, slice_get_within}
 use Rattle.std.proofs.lemmas.Str.{IsCharBoundary-from_take, IsUtf8-append, IsUtf8-drop, IsUtf8-nil}
 use Rattle.po_text.specs.Entries as po
-use Rattle.mo_image.specs.Entry.{IsText}
-use Rattle.po_checks.specs.Kept.{message_of, is_kept}
-use Rattle.catalogue.specs.Drafts.{Outline, outline, outlines, outline_of, outlines_from, texts_if_kept}
-use Rattle.catalogue.specs.Drafts.{IsLawfulMessage, HasCollected}
-use Rattle.catalogue.specs.Body.{Kept, texts_by}
-use Rattle.catalogue.specs.Spans.{bytes_if_kept, plural_if_kept, share_of, stored, span_of, size, kept_at}
-use Rattle.catalogue.specs.Spans.{outline_at, outlines_at, HoldsText, HoldsSpan, HoldsAll, HasGathered}
-use Rattle.po_checks.specs.declared.findings.Findings.{Findings}
-use Rattle.po_checks.specs.declared.options.Options.{Options}
-use Rattle.catalogue.specs.declared.drafts.Draft.{Draft}
-use Rattle.catalogue.specs.declared.spans.Span.{Span}
+use Rattle.catalogue.specs.Drafts.{texts_if_kept, HasCollected}
+use Rattle.catalogue.specs.Body.{texts_by}
+use Rattle.catalogue.specs.Spans.{bytes_if_kept, plural_if_kept, share_of, size, kept_at}
+use Rattle.catalogue.specs.Spans.{outline_at, outlines_at, HoldsText, HoldsSpan, HoldsAll}
 use Rattle.mo_image.proofs.Originals.{key_utf8, translation_utf8}
 
 -- ---- the first outline
@@ -33,29 +27,29 @@ left_behind : (a b : List ℕ) (text : List ℕ) → text ≡ a ++ b → drop (l
 left_behind a b text is = ap (drop (length a)) is ∙ drop-append_seam a b
 
 if_kept_front : (o : Option Kept) → texts_by (share_of o) (length (plural_if_kept o)) (bytes_if_kept o) ≡ o
-if_kept_front None = refl
-if_kept_front (Some (None, t)) = refl
 if_kept_front (Some (Some p, t)) =
     ap (λ (x : List ℕ). Some (Some x, drop (length p) (p ++ t))) (take-append_seam p t)
     ∙ ap (λ (x : List ℕ). Some (Some p, x)) (drop-append_seam p t)
+if_kept_front _ = refl
 
-outline_size : (r : Outline) → size (span_of r) ≡ length (stored r)
+outline_size : (r : Outline) → size (span_of r) ≡ length (stored_bytes r)
 outline_size r = sym (length-append r.key (bytes_if_kept r.texts))
 
-row_behind : (r : Outline) (rest text : List ℕ) → text ≡ stored r ++ rest → drop (size (span_of r)) text ≡ rest
-row_behind r rest text is = ap (λ n. drop n text) (outline_size r) ∙ left_behind (stored r) rest text is
+row_behind : (r : Outline) (rest text : List ℕ) → text ≡ stored_bytes r ++ rest → drop (size (span_of r)) text ≡ rest
+row_behind r rest text is = ap (λ n. drop n text) (outline_size r) ∙ left_behind (stored_bytes r) rest text is
 
-key_parts : (r : Outline) (rest text : List ℕ) → text ≡ stored r ++ rest → text ≡ r.key
+key_parts : (r : Outline) (rest text : List ℕ) → text ≡ stored_bytes r ++ rest → text ≡ r.key
     ++ (bytes_if_kept r.texts ++ rest)
 key_parts r rest text is = is ∙ append_assoc r.key (bytes_if_kept r.texts) rest
 
-kept_front : (r : Outline) (rest text : List ℕ) → text ≡ stored r ++ rest
+kept_front : (r : Outline) (rest text : List ℕ) → text ≡ stored_bytes r ++ rest
     → kept_at text (span_of r) ≡ bytes_if_kept r.texts
 kept_front r rest text is =
     in_front (bytes_if_kept r.texts) rest (drop (length r.key) text)
     (left_behind r.key (bytes_if_kept r.texts ++ rest) text (key_parts r rest text is))
 
-row_front : (r : Outline) (rest text : List ℕ) → text ≡ stored r ++ rest → outline_at r.number text (span_of r) ≡ r
+row_front : (r : Outline) (rest text : List ℕ) → text ≡ stored_bytes r ++ rest → outline_at r.number text (span_of r)
+    ≡ r
 row_front r rest text is =
     let of : List ℕ → Option Kept → Outline = λ k t. record {
       number = r.number;
@@ -73,20 +67,23 @@ row_front r rest text is =
 
 -- ---- all outlines
 
-more_stored : (r : Outline) (rs : List Outline) (text : List ℕ) → text ≡ flat_map stored (r ∷ rs) → text ≡ stored r
-    ++ flat_map stored rs
-more_stored r rs text is = is ∙ flat_map-cons stored r rs
+more_stored : (r : Outline) (rs : List Outline) (text : List ℕ) → text ≡ flat_map stored_bytes (r ∷ rs) → text
+    ≡ stored_bytes r
+    ++ flat_map stored_bytes rs
+more_stored r rs text is = is ∙ flat_map-cons stored_bytes r rs
 
-rows_again : (o : Options) (k : ℕ) (es : List po.Entry) (text : List ℕ) → text ≡ flat_map stored (outlines_from o k es)
+rows_again : (o : Options) (k : ℕ) (es : List po.Entry) (text : List ℕ) → text
+    ≡ flat_map stored_bytes (outlines_from o k es)
     → outlines_at k text (map span_of (outlines_from o k es)) ≡ outlines_from o k es
 rows_again o k [] text is = refl
 rows_again o k (e ∷ es) text is =
     let r = outline_of o k e in
     let rs = outlines_from o (k + 1) es in
-    let parts : text ≡ stored r ++ flat_map stored rs = more_stored r rs text is in
-    let left : drop (size (span_of r)) text ≡ flat_map stored rs = row_behind r (flat_map stored rs) text parts in
+    let parts : text ≡ stored_bytes r ++ flat_map stored_bytes rs = more_stored r rs text is in
+    let left : drop (size (span_of r)) text ≡ flat_map stored_bytes rs =
+    row_behind r (flat_map stored_bytes rs) text parts in
     ap (λ (x : Outline). x ∷ outlines_at (k + 1) (drop (size (span_of r)) text) (map span_of rs))
-    (row_front r (flat_map stored rs) text parts)
+    (row_front r (flat_map stored_bytes rs) text parts)
     ∙ ap (λ (xs : List Outline). r ∷ xs) (rows_again o (k + 1) es (drop (size (span_of r)) text) left)
 
 -- ---- where the texts may be cut
@@ -112,11 +109,10 @@ kept_is_utf8 (Some (None, t)) u = u.translation
 kept_is_utf8 (Some (Some p, t)) u = IsUtf8-append p t u.plural u.translation
 
 holds_plural : (o : Option Kept) → IfSome o AreUtf8 → HoldsText (bytes_if_kept o) (length (plural_if_kept o))
-holds_plural None u = record { within = omega arith; utf8 = IsUtf8-nil }
-holds_plural (Some (None, t)) u = record { within = omega arith; utf8 = IsUtf8-nil }
 holds_plural (Some (Some p, t)) u = holds_text p t (p ++ t) refl u.plural
+holds_plural _ u = record { within = omega arith; utf8 = IsUtf8-nil }
 
-holds_outline : (r : Outline) (rest text : List ℕ) → text ≡ stored r ++ rest → IsUtf8Outline r
+holds_outline : (r : Outline) (rest text : List ℕ) → text ≡ stored_bytes r ++ rest → IsUtf8Outline r
     → HoldsSpan text (span_of r)
 holds_outline r rest text is u =
     let parts = key_parts r rest text is in
@@ -150,16 +146,17 @@ outline_utf8 o k e lawful = record {
       lawful;
 }
 
-holds_all : (o : Options) (k : ℕ) (es : List po.Entry) (text : List ℕ) → text ≡ flat_map stored (outlines_from o k es)
+holds_all : (o : Options) (k : ℕ) (es : List po.Entry) (text : List ℕ) → text
+    ≡ flat_map stored_bytes (outlines_from o k es)
     → AllByRecursion IsLawfulMessage es → HoldsAll text (map span_of (outlines_from o k es))
 holds_all o k [] text is lawful = tt
 holds_all o k (e ∷ es) text is lawful =
     let r = outline_of o k e in
     let rs = outlines_from o (k + 1) es in
-    let parts : text ≡ stored r ++ flat_map stored rs = more_stored r rs text is in (
-      holds_outline r (flat_map stored rs) text parts (outline_utf8 o k e lawful.0),
+    let parts : text ≡ stored_bytes r ++ flat_map stored_bytes rs = more_stored r rs text is in (
+      holds_outline r (flat_map stored_bytes rs) text parts (outline_utf8 o k e lawful.0),
       holds_all o (k + 1) es
-          (drop (size (span_of r)) text) (row_behind r (flat_map stored rs) text parts) lawful.1,
+          (drop (size (span_of r)) text) (row_behind r (flat_map stored_bytes rs) text parts) lawful.1,
     )
 
 -- ---- the pool of a text

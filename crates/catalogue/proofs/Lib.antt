@@ -1,3 +1,4 @@
+pub mod Kit
 pub mod Members
 pub mod OutlineOrder
 pub mod Repeats

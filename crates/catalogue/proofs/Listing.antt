@@ -1,24 +1,16 @@
 -- The kept entries of the sorted outlines are the map of the text.
-use Rattle.std.proofs.Common.{◌≡◌, ◌≢◌, ℕ, suc, ◌+◌, ◌<◌, Bool, true, false, cond, List, [], ◌∷◌, length, map, get_or}
-use Rattle.std.proofs.Common.{Option, Some, None, Ordering, refl, sym, ap, ◌∙◌, subst, arith}
-use Rattle.std.specs.Prelude.{Contains, option_map}
-use Rattle.std.specs.List.{AllByRecursion, filter, filter_map, cons_option}
-use Rattle.std.specs.Ordering.{nat_cmp, is_lt, ordering_then}
-use Rattle.std.specs.declared.cmp.Ordering.TheVariants.{Less, Equal, Greater}
-use Rattle.std.specs.Cmp.Lexicographic.{slice_cmp}
-use Rattle.std.specs.FinMap.{slice_cmp-IsAntisymmetric, nat_cmp-IsAntisymmetric}
-use Rattle.std.proofs.lemmas.Bool.{false≢true}
-use Rattle.std.proofs.lemmas.Cmp.{nat_list_cmp_total}
+use Rattle.catalogue.proofs.Kit.{◌≡◌, ℕ, suc, ◌+◌, ◌<◌, Bool, true, false, cond, List, [], ◌∷◌, length, map, get_or}
+use Rattle.catalogue.proofs.Kit.{Option, Some, None, Ordering, refl, sym, ap, ◌∙◌, subst, arith, Contains, option_map}
+use Rattle.catalogue.proofs.Kit.{AllByRecursion, filter_map, nat_cmp, is_lt, Less, Equal, Greater, slice_cmp}
+use Rattle.catalogue.proofs.Kit.{slice_cmp-IsAntisymmetric, nat_cmp-IsAntisymmetric, false≢true, nat_list_cmp_total}
+use Rattle.catalogue.proofs.Kit.{Entry, key, IsLawfulEntry, Rises, message_of, is_kept, kept_entries, IsMapOf, Kept}
+use Rattle.catalogue.proofs.Kit.{Outline, outline_of, kept_entry, IsRepeat, Options}
+use Rattle.std.proofs.Common.{◌≢◌}
+use Rattle.std.specs.List.{cons_option}
+use Rattle.std.specs.Ordering.{ordering_then}
 use Rattle.std.proofs.lemmas.List.Elements.{All-from_recursion, All-get_or, Contains-get_or}
 use Rattle.po_text.specs.Entries as po
-use Rattle.mo_image.specs.Entry.{Entry, key, IsLawfulEntry}
-use Rattle.mo_image.specs.Map.{Rises}
 use Rattle.mo_image.specs.Parts.{entry_from}
-use Rattle.po_checks.specs.Kept.{message_of, is_kept, kept}
-use Rattle.catalogue.specs.Meaning.{IsMapOf}
-use Rattle.catalogue.specs.Body.{Kept}
-use Rattle.catalogue.specs.Drafts.{Outline, outline_of, kept_entry, IsRepeat}
-use Rattle.po_checks.specs.declared.options.Options.{Options}
 use Rattle.mo_image.proofs.EntryParts.{entry_again}
 use Rattle.mo_image.proofs.KeyParts.{rejoined}
 use Rattle.catalogue.proofs.InOrder.{AreOrdered, Comes, comes, stands, outline_lt}
@@ -105,8 +97,6 @@ neighbour a b later differ =
 
 from_neighbours : (rs : List Outline) → ((i : ℕ) (d : Outline) → i + 1 < length rs
     → slice_cmp nat_cmp (get_or rs i d).key (get_or rs (i + 1) d).key ≡ Less) → Rises (row_keys rs)
-from_neighbours [] h = tt
-from_neighbours (r ∷ []) h = tt
 from_neighbours (r ∷ s ∷ rs) h = (
   h 0 r (omega arith),
   from_neighbours (s ∷ rs) (λ i d lt.
@@ -114,6 +104,7 @@ from_neighbours (r ∷ s ∷ rs) h = (
       subst (λ k. slice_cmp nat_cmp (get_or (s ∷ rs) i d).key (get_or (r ∷ s ∷ rs) k d).key ≡ Less) next
       (h (suc i) d (omega arith))),
 )
+from_neighbours _ h = tt
 
 rows_rise : (o : Options) (entries : List po.Entry) (rs : List Outline) → AreOrdered o entries rs
     → ((j : ℕ) → ¬ IsRepeat rs j) → Rises (row_keys rs)
@@ -177,12 +168,12 @@ was o (x ∷ es) lawful r comes m is = of (is_kept o e) refl
 
 each_listed : (o : Options) (m : List Entry) (es : List po.Entry)
     → ((i : ℕ) (d : po.Entry) → i < length es → is_kept o (get_or es i d) ≡ true
-    → Contains m (message_of (get_or es i d))) → AllByRecursion (Contains m) (map message_of (kept o es))
+    → Contains m (message_of (get_or es i d))) → AllByRecursion (Contains m) (map message_of (kept_entries o es))
 each_listed o m [] h = tt
 each_listed o m (e ∷ es) h = of (each_listed o m es (λ i d lt is. h (suc i) d (omega arith) is)) (is_kept o e) refl
   where
-    of : AllByRecursion (Contains m) (map message_of (kept o es)) → (b : Bool) → is_kept o e ≡ b
-        → AllByRecursion (Contains m) (map message_of (cond (is_kept o e) (e ∷ kept o es) (kept o es)))
+    of : AllByRecursion (Contains m) (map message_of (kept_entries o es)) → (b : Bool) → is_kept o e ≡ b
+        → AllByRecursion (Contains m) (map message_of (cond (is_kept o e) (e ∷ kept_entries o es) (kept_entries o es)))
     of rest true is = rw is (h 0 e (omega arith) is, rest)
     of rest false is = rw is rest
 
@@ -190,21 +181,21 @@ abbrev pub map_of : List Outline → List Entry
 map_of rs = filter_map kept_entry rs
 
 pub is_map : (o : Options) (entries : List po.Entry) (rs : List Outline) → AreOrdered o entries rs
-    → AllByRecursion Lawful entries → ((j : ℕ) → ¬ IsRepeat rs j) → IsMapOf (kept o entries) (map_of rs)
+    → AllByRecursion Lawful entries → ((j : ℕ) → ¬ IsRepeat rs j) → IsMapOf (kept_entries o entries) (map_of rs)
 is_map o entries rs ordered lawful none = record {
   rises = kept_all_rise rs (rows_rise o entries rs ordered none);
-  listed = All-from_recursion (Contains (map_of rs)) (map message_of (kept o entries))
+  listed = All-from_recursion (Contains (map_of rs)) (map message_of (kept_entries o entries))
       (each_listed o (map_of rs) entries (λ i d lt is.
       let e = get_or entries i d in
       let p = stands o entries rs ordered i d lt in
       let has : Contains rs (outline_of o i e) = (p.index, p.within, p.is (outline_of o i e)) in
       has_filter_map kept_entry rs (outline_of o i e) (message_of e) has
       (kept_is o i e (All-get_or Lawful entries i d lt (All-from_recursion Lawful entries lawful)) is)));
-  nothing_else = All-from_recursion (Contains (map message_of (kept o entries))) (map_of rs)
-      (each_given (Contains (map message_of (kept o entries))) rs (λ r has m is.
+  nothing_else = All-from_recursion (Contains (map message_of (kept_entries o entries))) (map_of rs)
+      (each_given (Contains (map message_of (kept_entries o entries))) rs (λ r has m is.
       let w = was o entries lawful r (comes o entries rs ordered r has) m is in
-      subst (λ (x : Entry). Contains (map message_of (kept o entries)) x) (sym w.is)
-      (has_map message_of (kept o entries) w.entry (has_filter (is_kept o) entries w.entry w.has w.is_kept))));
+      subst (λ (x : Entry). Contains (map message_of (kept_entries o entries)) x) (sym w.is)
+      (has_map message_of (kept_entries o entries) w.entry (has_filter (is_kept o) entries w.entry w.has w.is_kept))));
 }
 
 pub each_lawful : (o : Options) (entries : List po.Entry) (rs : List Outline) → AreOrdered o entries rs

@@ -1,8 +1,6 @@
 -- Lemmas that std lacks about the members of a list.
-use Rattle.std.proofs.Common.{◌≡◌, zero, suc, Bool, true, false, cond, List, [], ◌∷◌, map, Option, Some, None, refl}
-use Rattle.std.proofs.Common.{sym, ap, ◌∙◌, arith, inl, inr}
-use Rattle.std.specs.Prelude.{◌⊎◌, Contains}
-use Rattle.std.specs.List.{filter, filter_map, find}
+use Rattle.catalogue.proofs.Kit.{◌≡◌, zero, suc, Bool, true, false, cond, List, [], ◌∷◌, map, Option, Some, None, refl}
+use Rattle.catalogue.proofs.Kit.{sym, ap, ◌∙◌, arith, inl, inr, ◌⊎◌, Contains, filter, filter_map, find}
 
 pub has_head : {X : Type 0} (x y : X) (xs : List X) → y ≡ x → Contains (y ∷ xs) x
 has_head x y xs e = (zero, omega arith, e)

@@ -1,29 +1,17 @@
 -- A text has one meaning.
-use Rattle.std.proofs.Common.{◌≡◌, ℕ, Bool, List, [], ◌∷◌, map, refl, sym, ap, ◌∙◌, subst, arith, inl, inr}
-use Rattle.std.specs.Prelude.{◌⊎◌, Contains}
-use Rattle.std.specs.Ordering.{nat_cmp}
-use Rattle.std.specs.declared.cmp.Ordering.TheVariants.{Less}
-use Rattle.std.specs.Cmp.{IsTotalOrder}
-use Rattle.std.specs.Cmp.Lexicographic.{slice_cmp}
-use Rattle.std.proofs.lemmas.Cmp.{nat_list_cmp_total, tied_itself}
-use Rattle.std.proofs.lemmas.List.Elements.{All-contains}
+use Rattle.catalogue.proofs.Kit.{◌≡◌, ℕ, Bool, List, [], ◌∷◌, map, refl, sym, ap, ◌∙◌, subst, arith, inl, inr, ◌⊎◌}
+use Rattle.catalogue.proofs.Kit.{Contains, nat_cmp, Less, IsTotalOrder, slice_cmp, nat_list_cmp_total, All-contains}
+use Rattle.catalogue.proofs.Kit.{Entry, key, Rises, message_of, kept_entries, header_line_of, IsMapOf, Means, Refuses}
+use Rattle.catalogue.proofs.Kit.{Fails, IsFirst, kind_of, Options, Compiled, LoadKind, TooLarge, NotUtf8, BadEscape}
+use Rattle.catalogue.proofs.Kit.{OpenString, BadWord, BadText, BadOrder, BadIndex}
+use Rattle.std.proofs.lemmas.Cmp.{tied_itself}
 use Rattle.po_text.specs.Entries as po
 use Rattle.po_text.specs.Outcome as outcome
 use Rattle.po_text.specs.declared.fault.PoKind.{PoKind}
 use Rattle.po_text.specs.declared.fault.PoKind.TheVariants as kinds
 use Rattle.po_text.proofs.Outcomes.{gives_one, refuses_one, gives_or_refuses}
-use Rattle.mo_image.specs.Entry.{Entry, key}
-use Rattle.mo_image.specs.Map.{Rises}
-use Rattle.po_checks.specs.Kept.{message_of, kept, header_line_of}
-use Rattle.catalogue.specs.Meaning.{stats_of, missing_of, IsMapOf, Means, Refuses}
-use Rattle.po_checks.specs.Fails.{Fails, IsFirst}
-use Rattle.po_checks.specs.Refusal.{kind_of}
-use Rattle.po_checks.specs.declared.options.Options.{Options}
+use Rattle.catalogue.specs.Meaning.{stats_of, missing_of}
 use Rattle.catalogue.specs.declared.compiler.Stats.{Stats}
-use Rattle.catalogue.specs.declared.compiler.Compiled.{Compiled}
-use Rattle.po_checks.specs.declared.fault.LoadKind.{LoadKind}
-use Rattle.po_checks.specs.declared.fault.LoadKind.TheVariants.{TooLarge, NotUtf8, BadEscape, OpenString, BadWord}
-use Rattle.po_checks.specs.declared.fault.LoadKind.TheVariants.{BadText, BadOrder, BadIndex}
 use Rattle.catalogue.proofs.Members.{has_head, has_tail, has_cases}
 use Rattle.po_checks.proofs.Refusals.{first_refusal_one}
 
@@ -159,8 +147,8 @@ pub meaning_one : (text : List ℕ) (o : Options) (compiled other : Compiled) �
 meaning_one text o compiled other p q =
     let same : p.entries ≡ q.entries = gives_one text p.entries q.entries p.gives q.gives in
     same_compiled compiled other
-    (map_one (kept o q.entries) compiled.catalogue other.catalogue
-    (subst (λ (es : List po.Entry). IsMapOf (kept o es) compiled.catalogue) same p.map_is) q.map_is)
+    (map_one (kept_entries o q.entries) compiled.catalogue other.catalogue
+    (subst (λ (es : List po.Entry). IsMapOf (kept_entries o es) compiled.catalogue) same p.map_is) q.map_is)
     (p.stats_are ∙ ap stats_of same ∙ sym q.stats_are)
     (p.missing_is ∙ ap (missing_of o) same ∙ sym q.missing_is)
     (p.header_line_is ∙ ap (header_line_of o) same ∙ sym q.header_line_is)

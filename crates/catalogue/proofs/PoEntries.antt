@@ -1,12 +1,11 @@
 -- The entries of a PO text are lawful as entries of a catalogue.
-use Rattle.std.proofs.Common.{◌≡◌, ◌≢◌, ℕ, List, [], ◌∷◌, length, Option, Some, None, refl, arith}
-use Rattle.std.specs.Prelude.{Contains, IfSome}
-use Rattle.std.specs.List.{AllByRecursion}
+use Rattle.catalogue.proofs.Kit.{◌≡◌, ℕ, List, [], ◌∷◌, length, Option, Some, None, refl, arith, Contains, IfSome}
+use Rattle.catalogue.proofs.Kit.{AllByRecursion, IsText, IsLawfulEntry, message_of}
+use Rattle.std.proofs.Common.{◌≢◌}
 use Rattle.po_text.specs.Spelling as spelling
 use Rattle.po_text.specs.Entries as po
 use Rattle.po_text.specs.Lawful.{IsLawfulTexts, IsLawfulIf, HasNoFourIf, HasItsForms}
-use Rattle.mo_image.specs.Entry.{LacksByte, IsText, IsKeyText, HasForms, IsLawfulEntry}
-use Rattle.po_checks.specs.Kept.{message_of}
+use Rattle.mo_image.specs.Entry.{LacksByte, IsKeyText, HasForms}
 use Rattle.catalogue.proofs.Members.{has_head, has_tail}
 
 lacks_from : (byte : ℕ) (text : List ℕ) → ¬ Contains text byte → LacksByte byte text

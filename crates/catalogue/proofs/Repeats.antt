@@ -7,7 +7,7 @@ use Rattle.std.proofs.lemmas.List.{length-map, get_or-map}
 use Rattle.std.proofs.lemmas.Slice.Eq.{bytes_eq-Decides}
 use Rattle.std.specs.Str.{bytes_eq}
 use Rattle.catalogue.specs.Drafts.{Outline, outline, outlines, IsRepeat, IsFirstRepeat, FirstRepeat, is_earlier}
-use Rattle.catalogue.specs.Drafts.{earlier}
+use Rattle.catalogue.specs.Drafts.{earlier_repeat}
 use Rattle.catalogue.specs.declared.drafts.Draft.{Draft}
 
 -- what holds for the pairs before i and for the one that ends at i holds for those up to i
@@ -96,7 +96,7 @@ not_less r (Some x) other e s = let same : x ≡ other = some_same x other s in 
 
 choose : (rs : List Outline) (i : ℕ) (before r : Outline) (first : Option Outline) (t u : Bool)
     → bytes_eq before.key r.key ≡ t → is_earlier r first ≡ u → Looks rs i before r → FirstRepeat rs i first
-    → FirstRepeat rs (i + 1) (earlier before r first)
+    → FirstRepeat rs (i + 1) (earlier_repeat before r first)
 choose rs i before r first true true et eu l so_far =
     rw (et, eu) (taken rs i before r first l ((bytes_eq-Decides before.key r.key).0 et) eu so_far)
 choose rs i before r first true false et eu l so_far =
@@ -113,7 +113,7 @@ pub first_none : (rs : List Outline) → FirstRepeat rs 1 None
 first_none rs j lt = absurd (omega arith)
 
 pub first_more : (ds : List Draft) (i : ℕ) (before d : Draft) (first next : Option Outline) → 1 ≤ i → i < length ds
-    → before ≡ get_or ds (i - 1) before → d ≡ get_or ds i d → next ≡ earlier (outline before) (outline d) first
+    → before ≡ get_or ds (i - 1) before → d ≡ get_or ds i d → next ≡ earlier_repeat (outline before) (outline d) first
     → FirstRepeat (outlines ds) i first → FirstRepeat (outlines ds) (i + 1) next
 first_more ds i before d first next some within before_is d_is next_is so_far =
     rw next_is (choose (outlines ds) i (outline before) (outline d) first _ _ refl refl (record {

@@ -1,33 +1,24 @@
 -- A text has a meaning or a refusal: assuming neither leads to ⊥.
-use Rattle.std.proofs.Common.{◌≡◌, ℕ, zero, suc, ◌+◌, ◌<◌, Bool, true, false, cond, List, [], ◌∷◌, ◌++◌, map, length}
-use Rattle.std.proofs.Common.{Ordering, refl, sym, ap, ◌∙◌, subst, arith, inl, inr, append_assoc}
-use Rattle.std.specs.Prelude.{◌⊎◌, ◌≢◌, Contains, All}
-use Rattle.std.specs.List.{filter}
-use Rattle.std.specs.Ordering.{nat_cmp, ordering_reverse}
-use Rattle.std.specs.declared.cmp.Ordering.TheVariants.{Less, Equal, Greater}
-use Rattle.std.specs.Cmp.{IsTotalOrder}
-use Rattle.std.specs.Cmp.Lexicographic.{slice_cmp}
-use Rattle.std.specs.FinMap.{slice_cmp-IsAntisymmetric, nat_cmp-IsAntisymmetric}
-use Rattle.std.proofs.lemmas.Cmp.{nat_list_cmp_total}
-use Rattle.std.proofs.lemmas.List.{append-nil, map-append, get_or_default}
-use Rattle.std.proofs.lemmas.List.Elements.{All-nil, All-cons, All-contains, filter_passes, filter-append}
+use Rattle.catalogue.proofs.Kit.{◌≡◌, ℕ, zero, suc, ◌+◌, ◌<◌, Bool, true, false, cond, List, [], ◌∷◌, ◌++◌, map, length}
+use Rattle.catalogue.proofs.Kit.{Ordering, refl, sym, ap, ◌∙◌, subst, arith, inl, inr, append_assoc, ◌⊎◌, Contains}
+use Rattle.catalogue.proofs.Kit.{filter, nat_cmp, Less, Equal, Greater, IsTotalOrder, slice_cmp}
+use Rattle.catalogue.proofs.Kit.{slice_cmp-IsAntisymmetric, nat_cmp-IsAntisymmetric, nat_list_cmp_total, append-nil}
+use Rattle.catalogue.proofs.Kit.{map-append, get_or_default, All-contains, Entry, key, Rises, message_of, key_of}
+use Rattle.catalogue.proofs.Kit.{is_kept, kept_entries, header_line_of, IsMapOf, Means, Refuses, HasDistinctKeys}
+use Rattle.catalogue.proofs.Kit.{IsDuplicateAt, Fails, IsFirst, kind_of, Options, Compiled, LoadKind}
+use Rattle.std.specs.Prelude.{◌≢◌, All}
+use Rattle.std.specs.Ordering.{ordering_reverse}
+use Rattle.std.proofs.lemmas.List.Elements.{All-nil, All-cons, filter_passes, filter-append}
 use Rattle.std.proofs.lemmas.List.Elements.{Contains-append_left, Contains-append_right, Contains-push_cases}
 use Rattle.std.proofs.lemmas.List.Quantifiers.{all_pairs_push}
 use Rattle.po_text.specs.Entries as po
 use Rattle.po_text.specs.Outcome as outcome
 use Rattle.po_text.proofs.SomeOutcome.{some_outcome}
-use Rattle.mo_image.specs.Entry.{Entry, key}
-use Rattle.mo_image.specs.Map.{Rises}
-use Rattle.po_checks.specs.Kept.{message_of, key_of, is_kept, kept, header_line_of}
-use Rattle.catalogue.specs.Meaning.{stats_of, missing_of, IsMapOf, Means, Refuses}
-use Rattle.po_checks.specs.Fails.{HasDistinctKeys, IsDuplicateAt, Fails, rank, IsFirst}
-use Rattle.po_checks.specs.Refusal.{kind_of}
-use Rattle.po_checks.specs.declared.options.Options.{Options}
-use Rattle.catalogue.specs.declared.compiler.Compiled.{Compiled}
-use Rattle.po_checks.specs.declared.fault.LoadKind.{LoadKind}
-use Rattle.po_checks.specs.declared.fault.LoadKind.TheVariants.{TooLarge, NotUtf8, BadEscape, OpenString, BadWord}
-use Rattle.po_checks.specs.declared.fault.LoadKind.TheVariants.{BadText, BadOrder, BadIndex, Duplicate}
+use Rattle.catalogue.specs.Meaning.{stats_of, missing_of}
+use Rattle.po_checks.specs.Fails.{rank}
+use Rattle.po_checks.specs.declared.fault.LoadKind.TheVariants.{Duplicate}
 use Rattle.catalogue.proofs.Collecting.{text_refuses}
+use Rattle.catalogue.proofs.Compiling.{as_refusal}
 use Rattle.catalogue.proofs.OneMeaning.{rises_behind, below_members}
 use Rattle.catalogue.proofs.Members.{has_head, has_tail, has_cases, has_map, from_map, from_filter}
 
@@ -125,15 +116,15 @@ map_with x messages m is i = record {
 }
 
 abbrev messages_of : Options → List po.Entry → List Entry
-messages_of o es = map message_of (kept o es)
+messages_of o es = map message_of (kept_entries o es)
 
 -- one more entry
 messages_push : (o : Options) (es : List po.Entry) (e : po.Entry) (b : Bool) → is_kept o e ≡ b
     → messages_of o (es ++ e ∷ []) ≡ messages_of o es ++ cond b (message_of e ∷ []) []
 messages_push o es e b is =
     let one : filter (is_kept o) (e ∷ []) ≡ cond b (e ∷ []) [] = rw is refl in
-    ap (map message_of) (filter-append (is_kept o) es (e ∷ []) ∙ ap (λ (t : List po.Entry). kept o es ++ t) one)
-    ∙ map-append message_of (kept o es) (cond b (e ∷ []) [])
+    ap (map message_of) (filter-append (is_kept o) es (e ∷ []) ∙ ap (λ (t : List po.Entry). kept_entries o es ++ t) one)
+    ∙ map-append message_of (kept_entries o es) (cond b (e ∷ []) [])
     ∙ ap (λ (t : List Entry). messages_of o es ++ t) (image b)
   where
     image : (b : Bool) → map message_of (cond b (e ∷ []) []) ≡ cond b (message_of e ∷ []) []
@@ -171,7 +162,7 @@ maps_from o entries before (e ∷ after) m split distinct is no_repeat no_map =
 
     new_key : (y : Entry) → Contains m y → key y ≡ key (message_of e) → ⊥
     new_key y has same =
-        let (d, kept_one, is_y) = from_map message_of (kept o before) y (is.only y has) in
+        let (d, kept_one, is_y) = from_map message_of (kept_entries o before) y (is.only y has) in
         let there : Contains (map key_of before) (key_of d) = has_map key_of before d
         (from_filter (is_kept o) before d kept_one) in
         new (subst (λ (k : List ℕ). Contains (map key_of before) k) (ap key is_y ∙ same) there)
@@ -184,7 +175,7 @@ maps_from o entries before (e ∷ after) m split distinct is no_repeat no_map =
         (sym (messages_push o before e false keeps ∙ append-nil (messages_of o before))) is)
 
 some_map : (o : Options) (entries : List po.Entry) → ((line : ℕ) → IsDuplicateAt entries line → ⊥)
-    → ((m : List Entry) → IsMapOf (kept o entries) m → ⊥) → ⊥
+    → ((m : List Entry) → IsMapOf (kept_entries o entries) m → ⊥) → ⊥
 some_map o entries no_repeat no_map =
     maps_from o entries [] entries [] refl (λ i j d less within. absurd (omega (arith, within)))
     (record { rises = tt; has = λ y has. has; only = λ y has. has }) no_repeat
@@ -203,18 +194,6 @@ some_first zero Failing none kind line lt fails = absurd (omega arith)
 some_first (suc n) Failing none kind line lt fails = none kind line
     (record { holds = fails; first = λ other at less also. some_first n Failing none other at (omega arith) also })
 
-entries_refuse : (text : List ℕ) (o : Options) (kind : LoadKind) (line : ℕ) (entries : List po.Entry)
-    → outcome.Gives text entries → IsFirst (Fails o entries) kind line → Refuses text o kind line
-entries_refuse text o TooLarge line entries gives first = absurd first.holds
-entries_refuse text o NotUtf8 line entries gives first = absurd first.holds
-entries_refuse text o BadEscape line entries gives first = absurd first.holds
-entries_refuse text o OpenString line entries gives first = absurd first.holds
-entries_refuse text o BadWord line entries gives first = absurd first.holds
-entries_refuse text o BadText line entries gives first = absurd first.holds
-entries_refuse text o BadOrder line entries gives first = absurd first.holds
-entries_refuse text o BadIndex line entries gives first = absurd first.holds
-entries_refuse text o _ line entries gives first = (entries, gives, first)
-
 -- ---- a text
 
 pub some_meaning : (text : List ℕ) (o : Options) → ((compiled : Compiled) → Means text o compiled → ⊥)
@@ -224,7 +203,7 @@ some_meaning text o no_meaning no_refusal =
     (λ entries gives.
     let passes : (kind : LoadKind) (line : ℕ) → Fails o entries kind line → ⊥ = λ kind line fails.
     some_first (rank kind + 1) (Fails o entries) (λ k l first. no_refusal
-    (k, l, entries_refuse text o k l entries gives first)) kind line (omega arith) fails in
+    (k, l, as_refusal text o entries k l gives first)) kind line (omega arith) fails in
     some_map o entries (passes Duplicate)
     (λ m is. no_meaning (record {
       catalogue = m;
@@ -261,8 +240,10 @@ kept_form o e keeps = go e.forms refl
 
 pub means_formed : (text : List ℕ) (o : Options) (c : Compiled) → Means text o c → IsFormed c.catalogue
 means_formed text o c means e has =
-    let there = All-contains (Contains (map message_of (kept o means.entries))) c.catalogue e means.map_is.nothing_else
+    let there = All-contains (Contains (map message_of (kept_entries o means.entries))) c.catalogue e
+    means.map_is.nothing_else
     has in
-    let (d, kept_one, is) = from_map message_of (kept o means.entries) e there in
-    subst HasForm is (kept_form o d (All-contains (λ (x : po.Entry). is_kept o x ≡ true) (kept o means.entries) d
+    let (d, kept_one, is) = from_map message_of (kept_entries o means.entries) e there in
+    subst HasForm is (kept_form o d (All-contains (λ (x : po.Entry). is_kept o x ≡ true)
+    (kept_entries o means.entries) d
     (filter_passes (is_kept o) means.entries) kept_one))

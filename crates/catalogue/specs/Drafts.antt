@@ -115,8 +115,8 @@ is_earlier r None = true
 is_earlier r (Some other) = nat_lt r.number other.number
 
 -- the first repeat so far, given one more pair of neighbours
-abbrev pub earlier : Outline → Outline → Option Outline → Option Outline
-earlier before r first = if bytes_eq before.key r.key && is_earlier r first then Some r else first
+abbrev pub earlier_repeat : Outline → Outline → Option Outline → Option Outline
+earlier_repeat before r first = if bytes_eq before.key r.key && is_earlier r first then Some r else first
 
 abbrev pub outline_if : Option (Bor Draft) → Option Outline
 outline_if found = option_map (λ d. outline d.now) found

@@ -9,7 +9,7 @@ use Rattle.po_text.specs.declared.PoKind.TheVariants as po_kind
 use Rattle.po_header.specs.Fields.{missing}
 use Rattle.mo_image.specs.Entry.{Entry, key}
 use Rattle.mo_image.specs.Map.{Rises}
-pub use Rattle.po_checks.specs.Kept.{message_of, key_of, is_header, is_untranslated, is_kept, kept, kept_header}
+pub use Rattle.po_checks.specs.Kept.{message_of, key_of, is_header, is_untranslated, is_kept, kept_entries, kept_header}
 pub use Rattle.po_checks.specs.Kept.{header_line_of, header_text_of, HasHeaderRule, NamesAcceptedCharset}
 pub use Rattle.po_checks.specs.Fails.{Fails, IsFirst, rank}
 use Rattle.po_checks.specs.declared.options.Options.{Options}
@@ -27,8 +27,8 @@ pub record IsMapOf (entries : List po.Entry) (m : List Entry) : Type 0 where
 
 -- the entries that the statistics count: all but the header; of these, each is untranslated, else fuzzy, else
 -- translated
-abbrev pub counted : List po.Entry → List po.Entry
-counted entries = filter (λ e. not (is_header e)) entries
+abbrev pub counted_entries : List po.Entry → List po.Entry
+counted_entries entries = filter (λ e. not (is_header e)) entries
 
 abbrev pub is_fuzzy : po.Entry → Bool
 is_fuzzy e = not (is_untranslated e) && e.fuzzy
@@ -38,9 +38,9 @@ is_translated e = not (is_untranslated e) && not e.fuzzy
 
 abbrev pub stats_of : List po.Entry → Stats
 stats_of entries = record {
-  translated = count_by is_translated (counted entries);
-  fuzzy = count_by is_fuzzy (counted entries);
-  untranslated = count_by is_untranslated (counted entries);
+  translated = count_by is_translated (counted_entries entries);
+  fuzzy = count_by is_fuzzy (counted_entries entries);
+  untranslated = count_by is_untranslated (counted_entries entries);
 }
 
 -- no field is missing
@@ -48,13 +48,13 @@ abbrev pub none_missing : List Bool
 none_missing = false ∷ false ∷ false ∷ false ∷ false ∷ false ∷ false ∷ false ∷ []
 
 -- which of the eight fields a header's text lacks (GNU gettext manual, "Header Entry")
-abbrev pub lacking : Option (List ℕ) → List Bool
-lacking None = none_missing
-lacking (Some text) = missing text
+abbrev pub lacking_fields : Option (List ℕ) → List Bool
+lacking_fields None = none_missing
+lacking_fields (Some text) = missing text
 
 -- which of the eight fields the kept header lacks, at the checked level; none at the other
 abbrev pub missing_of : Options → List po.Entry → List Bool
-missing_of options entries = if options.checked then lacking (header_text_of options entries) else none_missing
+missing_of options entries = if options.checked then lacking_fields (header_text_of options entries) else none_missing
 
 -- ---- the text
 
@@ -63,7 +63,7 @@ pub record Means (text : List ℕ) (options : Options) (compiled : Compiled) : T
   pub entries : List po.Entry
   pub gives : po_outcome.Gives text entries
   pub passes : (kind : LoadKind) (line : ℕ) → ¬ Fails options entries kind line
-  pub map_is : IsMapOf (kept options entries) compiled.catalogue
+  pub map_is : IsMapOf (kept_entries options entries) compiled.catalogue
   pub stats_are : compiled.stats ≡ stats_of entries
   pub header_line_is : compiled.header_line ≡ header_line_of options entries
   pub missing_is : compiled.missing ≡ missing_of options entries

@@ -2,5 +2,5 @@
 use Rattle.std.specs.Prelude.{ℕ, ◌-◌, ◌^◌, min}
 
 -- a number, or 2^64 - 1 if it is larger
-abbrev pub capped : ℕ → ℕ
-capped n = min n (2 ^ 64 - 1)
+abbrev pub capped_number : ℕ → ℕ
+capped_number n = min n (2 ^ 64 - 1)

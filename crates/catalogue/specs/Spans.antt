@@ -36,8 +36,8 @@ share_of None = Dropped
 share_of (Some (None, translation)) = Plain
 share_of (Some (Some plural, translation)) = Plural
 
-abbrev pub stored : Outline → List ℕ
-stored r = r.key ++ bytes_if_kept r.texts
+abbrev pub stored_bytes : Outline → List ℕ
+stored_bytes r = r.key ++ bytes_if_kept r.texts
 
 abbrev pub span_of : Outline → Span
 span_of r = record {
@@ -90,7 +90,7 @@ HoldsAll text (s ∷ spans) = HoldsSpan text s × HoldsAll (drop (size s) text) 
 
 -- the texts and the spans are those of these outlines, and nothing else
 pub record AreTextsOf (texts : List ℕ) (spans : List Span) (rs : List Outline) : Type 0 where
-  pub texts_are : texts ≡ flat_map stored rs
+  pub texts_are : texts ≡ flat_map stored_bytes rs
   pub spans_are : spans ≡ map span_of rs
 
 -- the texts, their spans and the findings are those of the entries that the PO text gives

@@ -9,7 +9,7 @@ ghost use Rattle.catalogue.specs.Meaning.{Refuses};
 ghost use Rattle.catalogue.specs.Drafts as Drafts;
 ghost use Rattle.catalogue.specs.Drafts.{outline_of, texts_if_kept};
 ghost use Rattle.catalogue.specs.Spans.{bytes_if_kept, kept_bytes, plural_bytes, plural_if_kept, share_of};
-ghost use Rattle.catalogue.specs.Spans.{span_of, stored};
+ghost use Rattle.catalogue.specs.Spans.{span_of, stored_bytes};
 ghost use Rattle.catalogue.specs.Reading.{IsReadOf};
 ghost use Rattle.po_checks.specs.Refusal.{out_of_memory};
 
@@ -122,7 +122,7 @@ fn add_if_kept(
 fn add_entry(texts: &mut String, entry: &EntryBuffer, options: Options) -> Result<Span, AllocError>
     ensures lawful { OnOk result (IsLawfulTexts entry.now) }
     ensures added { OnOk result (string_bytes texts.new ≡ string_bytes texts.old
-        ++ stored (outline_of options 0 entry.now)) }
+        ++ stored_bytes (outline_of options 0 entry.now)) }
     ensures span { IfOk result (λ span. span ≡ span_of (outline_of options 0 entry.now)) }
 {
     let standing = standing_of(entry);

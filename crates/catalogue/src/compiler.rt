@@ -5,7 +5,7 @@ ghost use Rattle.std.specs.List.{count_by};
 ghost use Rattle.catalogue.specs.Drafts.{counts_as, outline};
 ghost use Rattle.catalogue.specs.Reading.{IsReadOf};
 ghost use Rattle.mo_image.specs.Map.{HasAcceptedCharset};
-ghost use Rattle.catalogue.specs.Meaning.{lacking, none_missing, Means, Refuses};
+ghost use Rattle.catalogue.specs.Meaning.{lacking_fields, none_missing, Means, Refuses};
 ghost use Rattle.po_checks.specs.Refusal.{out_of_memory};
 
 use crate::Catalogue;
@@ -77,7 +77,7 @@ fn is_accepted(header: Option<&str>) -> bool
 /// Reports which of the eight header fields the header lacks; none unless `checked` is set and there is a header.
 fn missing_in(header: Option<&str>, options: Options) -> [bool; 8]
     ensures { result
-        ≡ (if options.checked then lacking (option_map (λ text. text.now) header.entry) else none_missing) }
+        ≡ (if options.checked then lacking_fields (option_map (λ text. text.now) header.entry) else none_missing) }
 {
     match header {
         Some(text) if options.checked => missing_fields(text),

@@ -106,7 +106,8 @@ fn earlier<'d, 'a>(
     draft: &'d Draft<'a>,
     first: Option<&'d Draft<'a>>,
 ) -> Option<&'d Draft<'a>>
-    ensures { outline_if result ≡ Drafts.earlier (outline before.now) (outline draft.now) (outline_if first.entry) }
+    ensures { outline_if result ≡ Drafts.earlier_repeat (outline before.now) (outline draft.now)
+        (outline_if first.entry) }
 {
     if before.key.is_same(&draft.key) && is_earlier(draft, first) {
         Some(draft)

@@ -3,7 +3,7 @@ ghost use Rattle.std.specs.Prelude.{◌≡◌, ◌+◌, length, map, max, string
 ghost use Rattle.mo_image.specs.Entry.{key, original};
 ghost use Rattle.mo_image.specs.MoFile.{pool, spelling, entry_size};
 ghost use Rattle.catalogue.specs.Messages.{message_entry, messages_of};
-ghost use Rattle.catalogue.specs.Sizes.{capped};
+ghost use Rattle.catalogue.specs.Sizes.{capped_number};
 
 use crate::Message;
 use mo_image::{HEADER_LEN, ROW_LEN};
@@ -33,7 +33,7 @@ fn plural_len(message: &Message) -> usize
 
 /// The length of the forms, each followed by a NUL.
 fn forms_len(forms: &[String]) -> usize
-    ensures { result ≡ capped (length (pool (map (λ s. string_bytes s) forms.now))) }
+    ensures { result ≡ capped_number (length (pool (map (λ s. string_bytes s) forms.now))) }
 {
     let mut len: usize = 0;
     'forms: for form in forms {
@@ -44,7 +44,7 @@ fn forms_len(forms: &[String]) -> usize
 
 /// The length of the translation with its NUL, which it has even without a form.
 fn translation_len(forms: &[String]) -> usize
-    ensures { result ≡ capped (max (length (pool (map (λ s. string_bytes s) forms.now))) 1) }
+    ensures { result ≡ capped_number (max (length (pool (map (λ s. string_bytes s) forms.now))) 1) }
 {
     match forms_len(forms) {
         0 => 1,
@@ -54,7 +54,7 @@ fn translation_len(forms: &[String]) -> usize
 
 /// The size of a message in the file: two rows and two strings, each followed by a NUL.
 fn message_len(message: &Message) -> usize
-    ensures { result ≡ capped (entry_size (message_entry message.now)) }
+    ensures { result ≡ capped_number (entry_size (message_entry message.now)) }
 {
     let original = key_len(message)
         .saturating_add(plural_len(message))
@@ -66,7 +66,7 @@ fn message_len(message: &Message) -> usize
 
 /// The size of the file.
 pub(crate) fn file_len(messages: &[Message]) -> usize
-    ensures { result ≡ capped (length (spelling (messages_of messages.now))) }
+    ensures { result ≡ capped_number (length (spelling (messages_of messages.now))) }
 {
     let mut len = HEADER_LEN;
     'messages: for message in messages {

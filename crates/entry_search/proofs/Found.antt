@@ -1,22 +1,18 @@
 -- The entry of a key, found by a slot.
-use Rattle.std.proofs.Common.{◌≡◌, ℕ, length, ◌+◌, ◌<◌, true, false, List, ◌∷◌, ◌++◌, ◌-◌, Some, None, slice_get, refl}
-use Rattle.std.proofs.Common.{sym, ap, ◌∙◌, subst, arith, inl, inr, []}
-use Rattle.std.specs.Prelude.{Contains, IfSome, Option}
-use Rattle.std.specs.Ordering.{nat_cmp, is_eq}
-use Rattle.std.specs.declared.cmp.Ordering.TheVariants.{Less, Equal, Greater}
-use Rattle.std.specs.Cmp.Lexicographic.{slice_cmp}
-use Rattle.std.specs.Str.{bytes_eq}
+use Rattle.entry_search.proofs.Kit.{◌≡◌, ℕ, length, ◌+◌, ◌<◌, true, false, List, ◌∷◌, ◌++◌, ◌-◌, Some, None, slice_get}
+use Rattle.entry_search.proofs.Kit.{refl, sym, ap, ◌∙◌, subst, arith, inl, inr, [], Contains, IfSome, nat_cmp, Less}
+use Rattle.entry_search.proofs.Kit.{Equal, slice_cmp, bytes_eq, false≢true, bytes_eq-Decides, Entry, key, key_bytes}
+use Rattle.entry_search.proofs.Kit.{hash_alone, hash_within, HasNoSlot, IndexValue, IsIndex, Slot}
+use Rattle.std.specs.Prelude.{Option}
+use Rattle.std.specs.Ordering.{is_eq}
+use Rattle.std.specs.declared.cmp.Ordering.TheVariants.{Greater}
 use Rattle.std.specs.FinMap.{slice_cmp-IsAntisymmetric, nat_cmp-IsAntisymmetric}
-use Rattle.std.proofs.lemmas.Bool.{false≢true}
-use Rattle.std.proofs.lemmas.Slice.Eq.{bytes_eq-Decides}
-use Rattle.mo_image.specs.Entry.{Entry, key, key_bytes, IsKeyText, IsLawfulEntry, LacksByte}
+use Rattle.mo_image.specs.Entry.{IsKeyText, IsLawfulEntry, LacksByte}
 use Rattle.mo_image.specs.Map.{IsLawful, entry_at}
 use Rattle.entry_search.specs.Search.{AtMostDigits}
-use Rattle.entry_search.specs.Index.{asked_hash, hash_alone, hash_within, FindsBy, HasNoSlot, HasSlotOf, IndexValue}
-use Rattle.entry_search.specs.Index.{IsIndex}
+use Rattle.entry_search.specs.Index.{asked_hash, FindsBy, HasSlotOf}
 use Rattle.mo_image.specs.MoFile.{spelling}
 use Rattle.mo_image.specs.Extents.{AreExtentsOf}
-use Rattle.entry_search.specs.declared.slot_table.Slot.{Slot}
 use Rattle.entry_search.proofs.Searching.{apart, few_steps, find_none, find_some, greater_ne, less_ne, some_is}
 use Rattle.mo_image.proofs.Lists.{at_index}
 

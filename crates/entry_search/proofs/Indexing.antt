@@ -1,20 +1,18 @@
 -- The slots of an index: listed, sorted and spread out.
-use Rattle.std.proofs.Common.{◌≡◌, ℕ, ◌+◌, ◌<◌, ◌≤◌, List, [], ◌∷◌, ◌++◌, length, length-append, ◌-◌, get_or, Some}
-use Rattle.std.proofs.Common.{slice_get, sym, ap, ◌∙◌, subst, arith, inl, inr}
-use Rattle.std.specs.Prelude.{Contains, Option, None, ◌⊎◌}
+use Rattle.entry_search.proofs.Kit.{◌≡◌, ℕ, ◌+◌, ◌<◌, ◌≤◌, List, [], ◌∷◌, ◌++◌, length, ◌-◌, get_or, Some, slice_get}
+use Rattle.entry_search.proofs.Kit.{sym, ap, ◌∙◌, subst, arith, inl, inr, Contains, get_or_default, cases_lt, Entry}
+use Rattle.entry_search.proofs.Kit.{key, key_bytes, Slot, hash_alone, hash_within, Climbs, HasNoSlot, IsIndex}
+use Rattle.std.proofs.Common.{length-append}
+use Rattle.std.specs.Prelude.{Option, None, ◌⊎◌}
 use Rattle.std.specs.List.Sorted.{IsPermutation}
 use Rattle.std.proofs.Math.Seq.{get_or-append_seam}
-use Rattle.std.proofs.lemmas.List.{get_or_append_left, get_or_default}
-use Rattle.std.proofs.lemmas.Bool.{cases_lt}
+use Rattle.std.proofs.lemmas.List.{get_or_append_left}
 use Rattle.std.proofs.lemmas.Option.{slice_get_within}
 use Rattle.std.proofs.lemmas.List.Sorted.{IsPermutation-sym, Contains-permutation}
-use Rattle.mo_image.specs.Entry.{Entry, key, key_bytes}
 use Rattle.mo_image.specs.Map.{IsLawful}
 use Rattle.mo_image.specs.MoFile.{spelling}
 use Rattle.mo_image.specs.Extents.{AreExtents, AreExtentsOf}
-use Rattle.entry_search.specs.declared.slot_table.Slot.{Slot}
-use Rattle.entry_search.specs.Index.{asked_hash, hash_alone, hash_within, AddsSlotsOf, Climbs, HasHash, HasNoSlot}
-use Rattle.entry_search.specs.Index.{HasSlotOf, IsIndex, NamesEntries, OneForEachHash}
+use Rattle.entry_search.specs.Index.{asked_hash, AddsSlotsOf, HasHash, HasSlotOf, NamesEntries, OneForEachHash}
 use Rattle.entry_search.proofs.Searching.{some_is}
 
 -- ---- slots for each entry

@@ -1,3 +1,4 @@
+pub mod Kit
 pub mod Found
 pub mod Indexing
 pub mod KeyOrder

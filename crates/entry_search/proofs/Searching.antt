@@ -1,22 +1,19 @@
 -- The index of a key among rising keys, and a binary search for it.
-use Rattle.std.proofs.Common.{◌≡◌, ℕ, zero, suc, ◌+◌, ◌<◌, ◌≤◌, true, false, List, [], ◌∷◌, length, map, Option, Some}
-use Rattle.std.proofs.Common.{None, Ordering, slice_get, refl, sym, ap, ◌∙◌, subst, arith, lit≤, inl, inr}
-use Rattle.std.specs.Prelude.{IfSome, ◌-◌, ◌*◌, ◌/◌, ◌^◌}
-use Rattle.std.specs.Ordering.{nat_cmp, ordering_reverse}
-use Rattle.std.specs.declared.cmp.Ordering.TheVariants.{Less, Equal, Greater}
-use Rattle.std.specs.Cmp.Lexicographic.{slice_cmp}
+use Rattle.entry_search.proofs.Kit.{◌≡◌, ℕ, ◌+◌, ◌<◌, ◌≤◌, true, false, List, [], ◌∷◌, length, Option, Some, None}
+use Rattle.entry_search.proofs.Kit.{slice_get, refl, sym, ap, ◌∙◌, subst, arith, inl, inr, IfSome, nat_cmp, Less, Equal}
+use Rattle.entry_search.proofs.Kit.{slice_cmp, bytes_eq, cases_lt, bytes_eq-Decides, Entry, key}
+use Rattle.std.proofs.Common.{zero, suc, map, Ordering, lit≤}
+use Rattle.std.specs.Prelude.{◌-◌, ◌*◌, ◌/◌, ◌^◌}
+use Rattle.std.specs.Ordering.{ordering_reverse}
+use Rattle.std.specs.declared.cmp.Ordering.TheVariants.{Greater}
 use Rattle.std.specs.Cmp.{IsTotalOrder}
-use Rattle.std.specs.Str.{bytes_eq}
-use Rattle.std.proofs.lemmas.Bool.{cases_lt}
 use Rattle.std.proofs.lemmas.Cmp.{nat_list_cmp_total, tied_itself}
-use Rattle.std.proofs.lemmas.Slice.Eq.{bytes_eq-Decides}
 use Rattle.std.proofs.lemmas.Nat.{mul-le}
 use Rattle.std.proofs.Math.Nat.{pow-suc}
 use Rattle.std.proofs.Math.Pow.{pow_mono}
 use Rattle.std.proofs.lemmas.Int.Digits.{number_lt, number_digits_of, all_below_base_digits_of}
 use Rattle.std.specs.Int.Digits.{digits_of}
 use Rattle.std.specs.FinMap.{slice_cmp-IsAntisymmetric, nat_cmp-IsAntisymmetric}
-use Rattle.mo_image.specs.Entry.{Entry, key}
 use Rattle.mo_image.specs.Map.{Rises, entry_at}
 use Rattle.entry_search.specs.Search.{AtMostDigits, digits}
 use Rattle.mo_image.proofs.Lists.{slice_get-map}

@@ -1,14 +1,12 @@
 -- The slots of an index, and the texts that they lead to.
 use denote.Ref.{Bor}
-use Rattle.std.proofs.Common.{◌≡◌, ℕ, ◌+◌, ◌-◌, ◌<◌, ◌≤◌, List, length, drop, get_or, Option, Some, None, sym, ap, ◌∙◌}
-use Rattle.std.proofs.Common.{arith, inl, inr}
-use Rattle.std.specs.Prelude.{Contains, IfSome}
+use Rattle.entry_search.proofs.Kit.{◌≡◌, ℕ, ◌+◌, ◌-◌, ◌<◌, ◌≤◌, List, length, get_or, Option, Some, None, sym, ap, ◌∙◌}
+use Rattle.entry_search.proofs.Kit.{arith, inl, inr, Contains, IfSome, AllWithin, cases_lt, get_or_default, Slot}
+use Rattle.entry_search.proofs.Kit.{Climbs, HasNoSlot, IsCut}
+use Rattle.std.proofs.Common.{drop}
 use Rattle.std.specs.Array.{IsFirstChunk}
-use Rattle.std.specs.List.{AllWithin, slice_range}
-use Rattle.std.proofs.lemmas.Bool.{cases_lt}
-use Rattle.std.proofs.lemmas.List.{get_or_default, get_or-drop, get_or-take, length-take-le}
-use Rattle.entry_search.specs.declared.slot_table.Slot.{Slot}
-use Rattle.entry_search.specs.Index.{Climbs, HasNoSlot, IsCut}
+use Rattle.std.specs.List.{slice_range}
+use Rattle.std.proofs.lemmas.List.{get_or-drop, get_or-take, length-take-le}
 
 pub below_is : (slots : List Slot) (bound cut : ℕ) (slot : Slot) → Climbs slots → slot ≡ get_or slots (cut - 1) slot
     → 0 < cut → cut ≤ length slots → slot.hash < bound → AllWithin (λ r. r.hash < bound) slots 0 cut

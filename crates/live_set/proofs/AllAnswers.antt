@@ -1,10 +1,7 @@
 -- Many look-ups at once: the answers so far.
-use Rattle.std.proofs.Common.{◌≡◌, ℕ, ◌+◌, ◌-◌, List, [], ◌∷◌, ◌++◌, length, slice_get, Some, sym, ap, subst, ◌∙◌}
-use Rattle.std.proofs.Common.{arith, inl, inr, refl, Bor}
-use Rattle.std.proofs.lemmas.Bool.{cases_lt}
-use Rattle.std.proofs.lemmas.List.{length-append}
+use Rattle.live_set.proofs.Kit.{◌≡◌, ℕ, ◌+◌, ◌-◌, List, [], ◌∷◌, ◌++◌, length, slice_get, Some, sym, ap, subst, ◌∙◌}
+use Rattle.live_set.proofs.Kit.{arith, inl, inr, refl, Bor, cases_lt, length-append, Entry}
 use Rattle.std.proofs.lemmas.Option.{slice_get_within}
-use Rattle.catalogue.specs.Entry.{Entry}
 use Rattle.live_set.specs.Asks.{QueryValue, HasAnswer, HaveAnswers}
 use Rattle.live_set.proofs.Indexing.{get_front, get_rest}
 

@@ -1,10 +1,8 @@
 -- The load that a set finds for a domain and a locale after a load was put in its slot.
-use Rattle.std.proofs.Common.{◌≡◌, ℕ, Bool, true, false, cond, List, [], ◌∷◌, ◌++◌, Option, Some, None, Ordering, Less}
-use Rattle.std.proofs.Common.{Equal, Greater, filter, find, refl, sym, ap, subst, ◌∙◌}
-use Rattle.std.specs.Ordering.{is_lt}
-use Rattle.live_set.specs.Loads.{LoadValue, is_for, map_or_empty}
-use Rattle.live_set.specs.Sets.{SetValue, HasAbsorbed, with_load}
-use Rattle.live_set.specs.Slots.{order_of, is_before, with_slot, probe}
+use Rattle.live_set.proofs.Kit.{◌≡◌, ℕ, Bool, true, false, cond, List, [], ◌∷◌, ◌++◌, Option, Some, None, Ordering}
+use Rattle.live_set.proofs.Kit.{Less, Equal, Greater, filter, find, refl, sym, ap, subst, ◌∙◌, is_lt, LoadValue, is_for}
+use Rattle.live_set.proofs.Kit.{map_or_empty, SetValue, order_of, is_before, with_slot, probe}
+use Rattle.live_set.specs.Sets.{HasAbsorbed, with_load}
 use Rattle.live_set.proofs.Order.{flipped, tied_for, not_for, beside, less_ne, greater_ne}
 
 -- ---- a search of a filtered list

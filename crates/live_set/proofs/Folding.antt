@@ -3,8 +3,7 @@ use Rattle.std.proofs.Common.{◌≡◌, ℕ, ◌+◌, ◌≤◌, min, Bool, tru
 use Rattle.std.proofs.Common.{filter, find, refl, ap, ◌∙◌, arith}
 use Rattle.std.specs.List.{last_or}
 use Rattle.live_set.specs.Loads.{LoadValue, is_for, map_or_empty, map_of}
-use Rattle.live_set.specs.Sets.{SetValue, no_loads, with_load, map_in}
-use Rattle.live_set.specs.Sets.{fold as set_of}
+use Rattle.live_set.specs.Sets.{SetValue, no_loads, with_load, map_in, fold as set_of}
 use Rattle.live_set.proofs.Finding.{find-slotted}
 
 -- one more load is the last one if it is for the pair

@@ -1,12 +1,10 @@
 -- The index of a load among loads in consecutive runs.
-use Rattle.std.proofs.Common.{◌≡◌, ℕ, zero, suc, ◌+◌, ◌-◌, ◌<◌, ◌≤◌, min, List, [], ◌∷◌, ◌++◌, length, flat_map}
-use Rattle.std.proofs.Common.{drop, get_or, slice_get, find, Option, Some, None, MatchOption}
-use Rattle.std.proofs.Common.{Bool, is_some, refl, sym, ap, ◌∙◌, arith}
-use Rattle.std.proofs.lemmas.List.{get_or_default, length-append, drop_more}
+use Rattle.live_set.proofs.Kit.{◌≡◌, ℕ, zero, suc, ◌+◌, ◌-◌, ◌<◌, ◌≤◌, min, List, [], ◌∷◌, ◌++◌, length, flat_map, drop}
+use Rattle.live_set.proofs.Kit.{get_or, slice_get, find, Option, Some, None, MatchOption, Bool, refl, sym, ap, ◌∙◌}
+use Rattle.live_set.proofs.Kit.{arith, get_or_default, length-append, LoadValue, is_for, Rises, IsAt, probe, IsPlaceFor}
+use Rattle.std.proofs.Common.{is_some}
+use Rattle.std.proofs.lemmas.List.{drop_more}
 use Rattle.std.proofs.lemmas.Option.{slice_get-get_or}
-use Rattle.live_set.specs.Loads.{LoadValue, is_for}
-use Rattle.live_set.specs.Slots.{Rises, IsAt, probe}
-use Rattle.live_set.specs.Placing.{IsPlaceFor}
 use Rattle.live_set.proofs.Slotting.{find_at}
 
 -- ---- an index in joined lists

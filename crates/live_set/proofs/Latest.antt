@@ -1,12 +1,11 @@
 -- The latest load of each domain and locale is enough.
-use Rattle.std.proofs.Common.{◌≡◌, ℕ, ◌||◌, Bool, true, false, cond, List, [], ◌∷◌, Option, None, Some, filter, refl}
-use Rattle.std.proofs.Common.{sym, ap, ◌∙◌}
+use Rattle.live_set.proofs.Kit.{◌≡◌, ℕ, ◌||◌, Bool, true, false, cond, List, [], ◌∷◌, Option, None, Some, filter, refl}
+use Rattle.live_set.proofs.Kit.{sym, ap, ◌∙◌, LoadValue, is_for, map_or_empty}
 use Rattle.std.specs.List.{last_or, list_any}
 use Rattle.std.specs.Cmp.{first_so, second_so}
 use Rattle.std.specs.Str.{bytes_eq}
 use Rattle.std.proofs.lemmas.Slice.Eq.{bytes_eq-Decides}
-use Rattle.live_set.specs.Loads.{LoadValue, is_for, map_or_empty}
-use Rattle.live_set.specs.Laws.{LatestSuffice, latest}
+use Rattle.live_set.specs.Laws.{LatestSuffice, latest_loads}
 
 -- if an element is kept, the last one that is kept doesn't depend on the default
 any_kept : (p : LoadValue → Bool) (o other : Option LoadValue) (xs : List LoadValue) → list_any p xs ≡ true
@@ -35,19 +34,20 @@ module _ (domain locale : List ℕ) where
   p = is_for domain locale
 
   latest_last : (loads : List LoadValue) (o : Option LoadValue)
-      → last_or o (filter p (latest loads)) ≡ last_or o (filter p loads)
+      → last_or o (filter p (latest_loads loads)) ≡ last_or o (filter p loads)
   latest_last [] o = refl
   latest_last (x ∷ xs) o =
       let rest = latest_last xs in
       elim (list_any (is_for x.domain x.locale) xs) as (λ later. list_any (is_for x.domain x.locale) xs ≡ later
-      → last_or o (filter p (cond later (latest xs) (x ∷ latest xs)))
+      → last_or o (filter p (cond later (latest_loads xs) (x ∷ latest_loads xs)))
       ≡ last_or o (cond (p x) (x ∷ filter p xs) (filter p xs))) [
         | true ↦ λ replaced. rest o ∙ elim (p x) as (λ b. p x ≡ b
             → last_or o (filter p xs) ≡ last_or o (cond b (x ∷ filter p xs) (filter p xs))) [
               | true ↦ λ fits. any_kept p o (Some x) xs (sym (same_pair domain locale x xs fits) ∙ replaced)
               | false ↦ λ _. refl
             ] refl
-        | false ↦ λ _. elim (p x) as (λ b. last_or o (cond b (x ∷ filter p (latest xs)) (filter p (latest xs)))
+        | false ↦ λ _. elim (p x) as (λ b. last_or o
+            (cond b (x ∷ filter p (latest_loads xs)) (filter p (latest_loads xs)))
             ≡ last_or o (cond b (x ∷ filter p xs) (filter p xs))) [
               | true ↦ rest (Some x)
               | false ↦ rest o

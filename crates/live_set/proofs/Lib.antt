@@ -1,3 +1,4 @@
+pub mod Kit
 pub mod Order
 pub mod Ascii
 pub mod Finding

@@ -1,15 +1,14 @@
 -- The order of loads by domain and locale, and which loads are for a domain and a locale.
-use Rattle.std.proofs.Common.{◌≡◌, ℕ, ◌≤◌, ◌&&◌, true, false, List, Ordering, Less, Equal, Greater, refl, sym, ap, ◌∙◌}
-use Rattle.std.proofs.Common.{subst, arith}
+use Rattle.live_set.proofs.Kit.{◌≡◌, ℕ, ◌≤◌, true, false, List, Ordering, Less, Equal, Greater, refl, sym, ap, ◌∙◌}
+use Rattle.live_set.proofs.Kit.{subst, arith, alike_right, LoadValue, is_for, order_of, probe}
+use Rattle.std.proofs.Common.{◌&&◌}
 use Rattle.std.specs.Ordering.{nat_cmp, ordering_then, ordering_reverse, ordering_index}
 use Rattle.std.specs.Cmp.Lexicographic.{slice_cmp}
 use Rattle.std.specs.Cmp.{IsTotalOrder, first_so, second_so}
 use Rattle.std.specs.Str.{bytes_eq}
-use Rattle.std.proofs.lemmas.Cmp.{nat_list_cmp_total, tied_itself, alike_right, on_total, then_total}
+use Rattle.std.proofs.lemmas.Cmp.{nat_list_cmp_total, tied_itself, on_total, then_total}
 use Rattle.std.proofs.lemmas.Slice.Eq.{bytes_eq-Decides}
 use Rattle.std.specs.FinMap.{slice_cmp-IsAntisymmetric, nat_cmp-IsAntisymmetric}
-use Rattle.live_set.specs.Loads.{LoadValue, is_for}
-use Rattle.live_set.specs.Slots.{order_of, probe}
 
 pub total : IsTotalOrder order_of
 total =

@@ -1,18 +1,15 @@
 -- The places that a list of languages names answer as the list does.
-use Rattle.std.proofs.Common.{◌≡◌, ℕ, ◌+◌, ◌≤◌, true, cond, List, [], ◌∷◌, ◌++◌}
-use Rattle.std.proofs.Common.{length, map, flat_map, take, slice_get, find, Option, Some, None}
-use Rattle.std.proofs.Common.{is_some, refl, sym, ap, subst, ◌∙◌, arith, inl, inr}
+use Rattle.live_set.proofs.Kit.{◌≡◌, ℕ, ◌+◌, ◌≤◌, true, cond, List, [], ◌∷◌, ◌++◌, length, map, flat_map, take}
+use Rattle.live_set.proofs.Kit.{slice_get, find, Option, Some, None, refl, sym, ap, subst, ◌∙◌, arith, inl, inr}
+use Rattle.live_set.proofs.Kit.{cases_lt, false≢true, append-nil, length-append, Entry, has_key, members, locales_of}
+use Rattle.live_set.proofs.Kit.{named_locales, LoadValue, is_for, map_or_empty, map_at, IsPlaceFor, map_in}
+use Rattle.std.proofs.Common.{is_some}
 use Rattle.std.specs.Option.{option_map_or}
 use Rattle.std.specs.List.{cons_option}
-use Rattle.std.proofs.lemmas.Bool.{cases_lt, false≢true}
-use Rattle.std.proofs.lemmas.List.{append-nil, append_assoc, map-append, length-append}
-use Rattle.catalogue.specs.Entry.{Entry}
-use Rattle.live_set.specs.Asks.{has_key, map_with, maps_named}
-use Rattle.live_set.specs.LanguageList.{members, locales_of, named}
-use Rattle.live_set.specs.Loads.{LoadValue, is_for, map_or_empty}
-use Rattle.live_set.specs.SetPlaces.{IsListed, listed, loads_of, loads_named, map_among, map_at, most_places}
-use Rattle.live_set.specs.Placing.{IsExtended, IsPlaceFor, IsPushed}
-use Rattle.live_set.specs.Sets.{map_in}
+use Rattle.std.proofs.lemmas.List.{append_assoc, map-append}
+use Rattle.live_set.specs.Asks.{map_with, maps_named}
+use Rattle.live_set.specs.SetPlaces.{IsListed, listed_places, loads_of, loads_named, map_among, most_places}
+use Rattle.live_set.specs.Placing.{IsExtended, IsPushed}
 use Rattle.live_set.specs.declared.places.Places.{Places}
 
 -- ---- the loads of locales, one locale after another
@@ -58,7 +55,7 @@ module _ (held : List LoadValue) (domain : List ℕ) where
       → find (has_key key) (map (map_at held) ps) ≡ find (has_key key) (maps_named (map_in held) domain languages)
   same_search ps languages key same = ap (find (has_key key))
       (maps_at ps ∙ ap (map map_or_empty) same ∙ maps_of (loads_named held domain languages))
-      ∙ sym (search_same key (named languages))
+      ∙ sym (search_same key (named_locales languages))
 
   same_answers : (ps : List ℕ) (languages key : List ℕ)
       → map (slice_get held) ps ≡ map (λ l. Some l) (loads_named held domain languages)
@@ -73,8 +70,8 @@ module _ (held : List LoadValue) (domain : List ℕ) where
       let no : loads (locale ∷ []) ≡ [] = ap (λ o. cons_option o []) none in
       record {
         count = λ le. omega (arith, ap length no);
-        loads = λ le. sym (ap (λ ls. map (slice_get held) (listed places) ++ map (λ l. Some l) ls) no
-            ∙ append-nil (map (slice_get held) (listed places)));
+        loads = λ le. sym (ap (λ ls. map (slice_get held) (listed_places places) ++ map (λ l. Some l) ls) no
+            ∙ append-nil (map (slice_get held) (listed_places places)));
         more = λ lt few. omega (arith, lt, ap length no);
       }
 
@@ -91,8 +88,8 @@ module _ (held : List LoadValue) (domain : List ℕ) where
       record {
         count = λ le. pushed.count le ∙ ap (λ n. old.count + n) (sym many);
         loads = λ le. ap (map (slice_get held)) (pushed.places le)
-            ∙ map-append (slice_get held) (listed old) (place ∷ [])
-            ∙ ap (λ os. map (slice_get held) (listed old) ++ os) (ap (λ o. o ∷ [])
+            ∙ map-append (slice_get held) (listed_places old) (place ∷ [])
+            ∙ ap (λ os. map (slice_get held) (listed_places old) ++ os) (ap (λ o. o ∷ [])
             (is.at (omega (arith, pushed.fits le))) ∙ sym one);
         more = λ lt few. elim (pushed.more lt) [
           | inl full ↦ omega (arith, full, many)
@@ -114,9 +111,10 @@ module _ (held : List LoadValue) (domain : List ℕ) where
       record {
         count = λ le. omega (arith, second.count le, first.count (few le), counts);
         loads = λ le. second.loads le ∙ ap (λ os. os ++ map (λ l. Some l) (loads ys)) (first.loads (few le))
-            ∙ append_assoc (map (slice_get held) (listed old)) (map (λ l. Some l) (loads xs))
+            ∙ append_assoc (map (slice_get held) (listed_places old)) (map (λ l. Some l) (loads xs))
             (map (λ l. Some l) (loads ys))
-            ∙ ap (λ os. map (slice_get held) (listed old) ++ os) (sym (map-append (λ l. Some l) (loads xs) (loads ys))
+            ∙ ap (λ os. map (slice_get held) (listed_places old) ++ os)
+            (sym (map-append (λ l. Some l) (loads xs) (loads ys))
             ∙ ap (map (λ l. Some l)) (sym all));
         more = λ lt room. elim (cases_lt most_places between.count) [
           | inl full ↦ omega (arith, first.more full room, counts)
@@ -127,24 +125,25 @@ module _ (held : List LoadValue) (domain : List ℕ) where
   -- ---- the whole list
 
   pub listed_by_all : (languages : List ℕ) (none new : Places) → none.count ≡ 0
-      → IsExtended held domain (named languages) none new → IsListed held domain languages new
+      → IsExtended held domain (named_locales languages) none new → IsListed held domain languages new
   listed_by_all languages none new zero_count all =
-      let nothing : listed none ≡ [] = ap (λ n. take n none.places) zero_count in
-      let same : new.count ≤ most_places → map (slice_get held) (listed new)
+      let nothing : listed_places none ≡ [] = ap (λ n. take n none.places) zero_count in
+      let same : new.count ≤ most_places → map (slice_get held) (listed_places new)
       ≡ map (λ l. Some l) (loads_named held domain languages) = λ le. all.loads le
       ∙ ap (λ ps. map (slice_get held) ps ++ map (λ l. Some l) (loads_named held domain languages)) nothing in
       record {
         loads = same;
-        answers = λ le key. same_answers (listed new) languages key (same le);
+        answers = λ le key. same_answers (listed_places new) languages key (same le);
         more = λ lt few. omega (arith, all.more lt few, zero_count);
       }
 
   -- what is left of a list after its first member
   pub listed_by_rest : (languages rest member others : List ℕ) (old between new : Places)
       → members rest ≡ member ∷ members others → IsExtended held domain (locales_of member) old between
-      → ((q : Places) → IsExtended held domain (named rest) old q → IsListed held domain languages q)
-      → IsExtended held domain (named others) between new → IsListed held domain languages new
+      → ((q : Places) → IsExtended held domain (named_locales rest) old q → IsListed held domain languages q)
+      → IsExtended held domain (named_locales others) between new → IsListed held domain languages new
   listed_by_rest languages rest member others old between new cut first then second =
       then new (subst (λ (xs : List (List ℕ)). IsExtended held domain xs old new)
-      (sym (ap (flat_map locales_of) cut)) (extended_by_both (locales_of member) (named others) old between new first
+      (sym (ap (flat_map locales_of) cut)) (extended_by_both (locales_of member) (named_locales others) old between
+      new first
       second))

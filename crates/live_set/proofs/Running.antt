@@ -1,19 +1,17 @@
 -- Loads in consecutive runs: the run where a load belongs, and finding and inserting a load there.
-use Rattle.std.proofs.Common.{◌≡◌, ℕ, zero, suc, ◌+◌, ◌-◌, ◌<◌, ◌≤◌, Bool, true, false, cond, List, [], ◌∷◌, ◌++◌}
-use Rattle.std.proofs.Common.{length, get_or, take, drop, set, insert, filter, find, flat_map, Option, Some, None}
-use Rattle.std.proofs.Common.{Ordering, Less, Equal, Greater, Result, Ok, Err, MatchResult, length-take}
-use Rattle.std.proofs.Common.{length-drop, refl, sym, ap, ap₂, ◌∙◌, subst, arith, inl, inr}
-use Rattle.std.specs.List.{AllByRecursion}
+use Rattle.live_set.proofs.Kit.{◌≡◌, ℕ, zero, suc, ◌+◌, ◌-◌, ◌<◌, ◌≤◌, Bool, true, false, cond, List, [], ◌∷◌, ◌++◌}
+use Rattle.live_set.proofs.Kit.{length, get_or, take, drop, set, insert, filter, find, flat_map, Option, Some, None}
+use Rattle.live_set.proofs.Kit.{Ordering, Less, Equal, Greater, refl, sym, ap, ◌∙◌, subst, arith, inl, inr}
+use Rattle.live_set.proofs.Kit.{AllByRecursion, is_lt, false≢true, alike_right, append-nil, get_or_default, LoadValue}
+use Rattle.live_set.proofs.Kit.{is_for, order_of, is_before, with_slot, Rises, probe}
+use Rattle.std.proofs.Common.{Result, Ok, Err, MatchResult, length-take, length-drop, ap₂}
 use Rattle.std.specs.List.Sorted.{IsStrictlySortedBy, IsPartitionedBy, IsPartitionPoint}
 use Rattle.std.specs.Option.{SomeIff}
-use Rattle.std.specs.Ordering.{is_lt, is_le}
-use Rattle.std.proofs.lemmas.Bool.{cases_Bool, false≢true}
-use Rattle.std.proofs.lemmas.Cmp.{alike_right}
-use Rattle.std.proofs.lemmas.List.{append-nil, append_assoc, take-append-drop, get_or_default}
+use Rattle.std.specs.Ordering.{is_le}
+use Rattle.std.proofs.lemmas.Bool.{cases_Bool}
+use Rattle.std.proofs.lemmas.List.{append_assoc, take-append-drop}
 use Rattle.std.proofs.lemmas.List.Elements.{filter-append}
 use Rattle.std.proofs.lemmas.Map.Keys.{sorted_head, sorted_tail}
-use Rattle.live_set.specs.Loads.{LoadValue, is_for}
-use Rattle.live_set.specs.Slots.{order_of, is_before, with_slot, Rises, probe}
 use Rattle.live_set.specs.LoadRuns.{begins_by, begun_count}
 use Rattle.live_set.proofs.Slotting.{slotted_rises}
 use Rattle.live_set.proofs.Order.{total, flipped, not_for, less_ne, greater_ne}

@@ -1,17 +1,16 @@
 -- A load that is put in its slot among ascending loads, and the binary search for that slot.
-use Rattle.std.proofs.Common.{◌≡◌, ℕ, zero, suc, ◌<◌, ◌≤◌, Bool, true, false, cond, List, [], ◌∷◌, ◌++◌, length}
-use Rattle.std.proofs.Common.{get_or, take, drop, set, insert, filter, find, Some, None, Ordering, Less, Equal, Greater}
-use Rattle.std.proofs.Common.{Result, Ok, Err, IfOk, IfErr, refl, sym, ap, ap₂, ◌∙◌, subst, arith, inl, inr}
-use Rattle.std.specs.List.{AllByRecursion}
+use Rattle.live_set.proofs.Kit.{◌≡◌, ℕ, zero, suc, ◌<◌, ◌≤◌, Bool, true, false, cond, List, [], ◌∷◌, ◌++◌, length}
+use Rattle.live_set.proofs.Kit.{get_or, take, drop, set, insert, filter, find, Some, None, Ordering, Less, Equal}
+use Rattle.live_set.proofs.Kit.{Greater, refl, sym, ap, ◌∙◌, subst, arith, inl, inr, AllByRecursion, is_lt, cases_lt}
+use Rattle.live_set.proofs.Kit.{alike_right, LoadValue, is_for, SetValue, order_of, is_before, with_slot, Rises, probe}
+use Rattle.live_set.proofs.Kit.{IsAt}
+use Rattle.std.proofs.Common.{Result, Ok, Err, IfOk, IfErr, ap₂}
 use Rattle.std.specs.List.Sorted.{IsStrictlySortedBy, IsNonDecreasingBy, IsSearchInRange, IsBinarySearchResult}
-use Rattle.std.specs.Ordering.{is_lt, ordering_index}
-use Rattle.std.proofs.lemmas.Bool.{cases_lt}
-use Rattle.std.proofs.lemmas.Cmp.{alike_right, tied_back}
+use Rattle.std.specs.Ordering.{ordering_index}
+use Rattle.std.proofs.lemmas.Cmp.{tied_back}
 use Rattle.std.proofs.lemmas.List.Kept.{IsStrictlySortedBy-filter}
 use Rattle.std.proofs.lemmas.Map.Keys.{sorted_head, sorted_tail, Less-from_sorted}
-use Rattle.live_set.specs.Loads.{LoadValue, is_for}
-use Rattle.live_set.specs.Sets.{SetValue}
-use Rattle.live_set.specs.Slots.{order_of, is_before, with_slot, Rises, probe, IsAt, IsGapFor}
+use Rattle.live_set.specs.Slots.{IsGapFor}
 use Rattle.live_set.proofs.Order.{total, flipped, rises_with, tied_for, not_for, beside, less_ne, greater_ne}
 
 -- ---- the search

@@ -6,7 +6,7 @@ use Rattle.catalogue.specs.Entry.{Entry, key_bytes}
 use Rattle.catalogue.specs.Map.{entry_at}
 use Rattle.catalogue.specs.Value.{IsFirstForm, IsCounted, text_by}
 use Rattle.live_set.specs.Loads.{LoadValue, map_of}
-use Rattle.live_set.specs.LanguageList.{named}
+use Rattle.live_set.specs.LanguageList.{named_locales}
 use Rattle.live_set.specs.declared.query.Ask.{Ask}
 use Rattle.live_set.specs.declared.query.Ask.TheVariants as ask
 use denote.Ref.{Bor}
@@ -53,7 +53,7 @@ first_with key maps = option_map_or (λ m. m) (find (has_key key) maps) []
 
 -- the maps that a list of languages names in a domain, in order, given the map of each domain and locale
 abbrev pub maps_named : (List ℕ → List ℕ → List Entry) → List ℕ → List ℕ → List (List Entry)
-maps_named maps domain languages = map (maps domain) (named languages)
+maps_named maps domain languages = map (maps domain) (named_locales languages)
 
 -- the answer of some maps to a call: that of the first map that has its key, or without one of the empty map
 abbrev pub HasFirstValue : List (List Entry) → AskValue → List ℕ → Type 0
@@ -62,15 +62,15 @@ HasFirstValue maps ask text = HasValue (first_with (key_of ask) maps) ask text
 -- the map that answers a key in a domain and a list of languages, given the map of each domain and locale: that of the
 -- first listed locale whose map has the key, or the empty map
 abbrev pub map_with : (List ℕ → List ℕ → List Entry) → List ℕ → List ℕ → List ℕ → List Entry
-map_with maps domain languages key = first_with key (map (maps domain) (named languages))
+map_with maps domain languages key = first_with key (map (maps domain) (named_locales languages))
 
 -- the map that answers a query
-abbrev pub answering : (List ℕ → List ℕ → List Entry) → QueryValue → List Entry
-answering maps query = map_with maps query.domain query.languages (key_of query.ask)
+abbrev pub answering_map : (List ℕ → List ℕ → List Entry) → QueryValue → List Entry
+answering_map maps query = map_with maps query.domain query.languages (key_of query.ask)
 
 -- the answer to a query over these maps
 abbrev pub HasAnswer : (List ℕ → List ℕ → List Entry) → QueryValue → List ℕ → Type 0
-HasAnswer maps query text = HasValue (answering maps query) query.ask text
+HasAnswer maps query text = HasValue (answering_map maps query) query.ask text
 
 -- the answer to a query after these loads
 abbrev pub IsAnswer : List LoadValue → QueryValue → List ℕ → Type 0

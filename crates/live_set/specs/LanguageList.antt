@@ -42,5 +42,5 @@ abbrev pub locales_of : List ℕ → List (List ℕ)
 locales_of member = member ∷ language_behind member
 
 -- the locales that a list names, in the order in which they are tried
-abbrev pub named : List ℕ → List (List ℕ)
-named languages = flat_map locales_of (members languages)
+abbrev pub named_locales : List ℕ → List (List ℕ)
+named_locales languages = flat_map locales_of (members languages)

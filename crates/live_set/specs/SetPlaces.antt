@@ -3,7 +3,7 @@
 use Rattle.std.specs.Prelude.{◌≡◌, ℕ, ◌<◌, ◌≤◌, List, length, map, take, slice_get, Some, find, filter_map}
 use Rattle.catalogue.specs.Entry.{Entry}
 use Rattle.live_set.specs.Asks.{first_with, map_with}
-use Rattle.live_set.specs.LanguageList.{named}
+use Rattle.live_set.specs.LanguageList.{named_locales}
 use Rattle.live_set.specs.Loads.{LoadValue, is_for, map_or_empty}
 use Rattle.live_set.specs.Sets.{map_in}
 use Rattle.live_set.specs.declared.places.Places.{Places}
@@ -30,18 +30,18 @@ loads_of held domain locales = filter_map (λ locale. find (is_for domain locale
 
 -- the loads that a list of languages names, of those that there are
 abbrev pub loads_named : List LoadValue → List ℕ → List ℕ → List LoadValue
-loads_named held domain languages = loads_of held domain (named languages)
+loads_named held domain languages = loads_of held domain (named_locales languages)
 
 -- the places that are listed
-abbrev pub listed : Places → List ℕ
-listed places = take places.count places.places
+abbrev pub listed_places : Places → List ℕ
+listed_places places = take places.count places.places
 
 -- the places of all loads that a list of languages names, in its order, so that they answer each key as the list does;
 -- a larger count than `most_places` says that there are more loads, or that a place would be too large
 pub record IsListed (held : List LoadValue) (domain languages : List ℕ) (places : Places) : Type 0 where
   pub loads : places.count ≤ most_places
-      → map (slice_get held) (listed places) ≡ map (λ load. Some load) (loads_named held domain languages)
+      → map (slice_get held) (listed_places places) ≡ map (λ load. Some load) (loads_named held domain languages)
   pub answers : places.count ≤ most_places → (key : List ℕ)
-      → map_among held (listed places) key ≡ map_with (map_in held) domain languages key
+      → map_among held (listed_places places) key ≡ map_with (map_in held) domain languages key
   pub more : most_places < places.count → length held ≤ place_limit
       → most_places < length (loads_named held domain languages)

@@ -1,7 +1,6 @@
 -- A set of catalogues: the number of loads it absorbed, its map for each domain and locale, and the effect of one more
 -- load.
-use Rattle.std.specs.Prelude.{◌≡◌, ℕ, ◌+◌, min, if◌then◌else◌, List, []}
-use Rattle.std.specs.Prelude.{fold as fold_list}
+use Rattle.std.specs.Prelude.{◌≡◌, ℕ, ◌+◌, min, if◌then◌else◌, List, [], fold as fold_list}
 use Rattle.std.specs.List.{find}
 use Rattle.catalogue.specs.Entry.{Entry}
 use Rattle.live_set.specs.Loads.{LoadValue, is_for, map_or_empty}

@@ -5,7 +5,7 @@ ghost use Rattle.catalogue.specs.Map.{entry_at};
 ghost use Rattle.catalogue.specs.Value.{IsTranslatedWithNul};
 ghost use Rattle.live_set.specs.FirstFound.{IsFoundIn};
 ghost use Rattle.live_set.specs.LanguageList.{locales_of};
-ghost use Rattle.live_set.specs.SetPlaces.{IsListed, listed, map_among, map_at, most_places};
+ghost use Rattle.live_set.specs.SetPlaces.{IsListed, listed_places, map_among, map_at, most_places};
 ghost use Rattle.live_set.specs.Placing.{IsExtended, IsPushed};
 
 use crate::CatalogueSet;

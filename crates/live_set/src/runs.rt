@@ -1,7 +1,6 @@
 //! Loads in ascending order, kept in runs of bounded length so that inserting one moves few others.
-ghost use Rattle.std.specs.Prelude.{◌≡◌, ◌<◌, true, false, [], ◌++◌, length, find, flat_map, option_map};
-ghost use Rattle.std.specs.Prelude.{MatchResult, MatchOption, None, IfOk, IfErr, IfSome, min, slice_get};
-ghost use Rattle.std.specs.Prelude.{◌≤◌, take, drop};
+ghost use Rattle.std.specs.Prelude.{◌≡◌, ◌<◌, true, false, [], ◌++◌, length, find, flat_map, option_map, MatchResult};
+ghost use Rattle.std.specs.Prelude.{MatchOption, None, IfOk, IfErr, IfSome, min, slice_get, ◌≤◌, take, drop};
 ghost use Rattle.std.specs.List.Sorted.{IsPartitionedBy, IsPartitionPoint};
 ghost use Rattle.live_set.specs.Loads.{is_for};
 ghost use Rattle.live_set.specs.Slots.{with_slot, Rises, IsAt, IsGapFor};

@@ -1,23 +1,19 @@
 -- Texts with the NUL after them: in a file, and the forms of an entry.
-use Rattle.std.proofs.Common.{◌≡◌, ℕ, zero, suc, ◌+◌, ◌-◌, ◌<◌, List, [], ◌∷◌, ◌++◌, length, take, drop, get_or, eqb}
-use Rattle.std.proofs.Common.{Option, Some, None, slice_get, refl, sym, ap, ◌∙◌, subst, arith, append_assoc}
-use Rattle.std.specs.Prelude.{IfSome, slice_index, ◌==◌}
-use Rattle.std.specs.List.{AllByRecursion, join_with_byte, slice_split}
-use Rattle.std.specs.Str.{IsUtf8}
-use Rattle.std.proofs.lemmas.Bool.{eqb-true}
-use Rattle.std.proofs.lemmas.List.{take_more, get_or-drop, length-drop, length-take-le}
-use Rattle.std.proofs.lemmas.List.Splits.{join_with_byte-slice_split, length-slice_split}
-use Rattle.std.proofs.lemmas.List.Sums.{passes_at_first}
+use Rattle.mo_image.proofs.Kit.{◌≡◌, ℕ, zero, suc, ◌+◌, ◌<◌, List, [], ◌∷◌, ◌++◌, length, take, drop, get_or, eqb}
+use Rattle.mo_image.proofs.Kit.{Option, Some, None, slice_get, refl, sym, ap, ◌∙◌, subst, arith, append_assoc, IfSome}
+use Rattle.mo_image.proofs.Kit.{slice_index, AllByRecursion, join_with_byte, slice_split, IsUtf8, eqb-true, length-drop}
+use Rattle.mo_image.proofs.Kit.{length-take-le, join_with_byte-slice_split, passes_at_first, little_number, offset_of}
+use Rattle.mo_image.proofs.Kit.{Entry, IsLawfulEntry, LacksByte, IsNamedAt, NamesText, with_nul, pool, entry_of}
+use Rattle.mo_image.proofs.Kit.{word_at}
+use Rattle.std.proofs.Common.{◌-◌}
+use Rattle.std.specs.Prelude.{◌==◌}
+use Rattle.std.proofs.lemmas.List.{take_more, get_or-drop}
+use Rattle.std.proofs.lemmas.List.Splits.{length-slice_split}
 use Rattle.std.proofs.lemmas.Str.{IsUtf8-append}
-use Rattle.byteorder.specs.Endian.{little_number}
-use Rattle.byte_text.specs.Cut.{cut, offset_of, IsCut}
-use Rattle.mo_image.specs.Entry.{Entry, HasForms, IsLawfulEntry, LacksByte}
-use Rattle.mo_image.specs.Extents.{piece, HoldsWithNul, IsNamedAt}
-use Rattle.mo_image.specs.Image.{NamesText}
+use Rattle.byte_text.specs.Cut.{cut, IsCut}
+use Rattle.mo_image.specs.Entry.{HasForms}
+use Rattle.mo_image.specs.Extents.{piece, HoldsWithNul}
 use Rattle.mo_image.specs.Lent.{IsCutWithNul}
-use Rattle.mo_image.specs.MoFile.{with_nul, pool}
-use Rattle.mo_image.specs.Pairs.{entry_of}
-use Rattle.mo_image.specs.Tables.{word_at}
 use Rattle.mo_image.specs.declared.extent.Extent.{Extent}
 use Rattle.mo_image.proofs.EntryParts.{cut-some}
 use Rattle.mo_image.proofs.Extents.{piece_held}
@@ -112,10 +108,9 @@ cut_told forms k left front behind at are told =
 
 one_form : (forms : List (List ℕ)) (t : List ℕ) (k : ℕ) → length forms ≡ 1 → join_with_byte 0 forms ≡ t
     → k < length forms → slice_get forms k ≡ Some t
-one_form [] t k one joined lt = absurd (omega (arith, lt))
 one_form (f ∷ g ∷ fs) t k one joined lt = absurd (omega (arith, one))
 one_form (f ∷ []) t zero one joined lt = ap (λ (x : List ℕ). Some x) joined
-one_form (f ∷ []) t (suc k) one joined lt = absurd (omega (arith, lt))
+one_form _ t _ one joined lt = absurd (omega (arith, lt))
 
 -- an entry without a plural has its translation as its only form
 pub only_form : (o t : List ℕ) (e : Entry) (k : ℕ) → IsLawfulEntry (entry_of o t) → entry_of o t ≡ e → e.plural ≡ None

@@ -1,11 +1,8 @@
 -- The texts that the rows of a table name.
-use Rattle.std.proofs.Common.{◌≡◌, ℕ, List, refl, sym, subst, arith}
-use Rattle.std.specs.Str.{IsUtf8}
-use Rattle.byteorder.specs.Endian.{little_number}
+use Rattle.mo_image.proofs.Kit.{◌≡◌, ℕ, List, refl, sym, subst, arith, IsUtf8, little_number, string_at, NamesText}
+use Rattle.mo_image.proofs.Kit.{IsNamedAt}
 use Rattle.mo_image.specs.declared.extent.Extent.{Extent}
-use Rattle.mo_image.specs.Tables.{string_at}
-use Rattle.mo_image.specs.Image.{NamesText}
-use Rattle.mo_image.specs.Extents.{piece, HoldsPiece, IsNamedAt}
+use Rattle.mo_image.specs.Extents.{piece, HoldsPiece}
 
 pub piece_named : (bytes : List ℕ) (offset : ℕ) (extent : Extent) → IsNamedAt bytes offset extent → piece bytes extent
     ≡ string_at little_number bytes offset

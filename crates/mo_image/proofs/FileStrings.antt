@@ -1,15 +1,14 @@
 -- The strings that the tables of a map's file name.
-use Rattle.std.proofs.Common.{◌≡◌, ℕ, zero, suc, ◌+◌, ◌*◌, ◌^◌, lit<, ◌<◌, ◌≤◌, List, [], ◌∷◌, ◌++◌, length, map, take}
-use Rattle.std.proofs.Common.{drop, get_or, Some, slice_get, refl, sym, ap, ◌∙◌, subst, arith, append_assoc}
-use Rattle.std.proofs.Common.{length-append}
-use Rattle.std.specs.Prelude.{slice_index}
-use Rattle.std.proofs.lemmas.List.{drop_at, take_at, get_or_at, length-map, append-nil}
-use Rattle.byteorder.specs.Endian.{little_number}
+use Rattle.mo_image.proofs.Kit.{◌≡◌, ℕ, zero, suc, ◌+◌, ◌*◌, ◌<◌, ◌≤◌, List, [], ◌∷◌, ◌++◌, length, map, take, drop}
+use Rattle.mo_image.proofs.Kit.{get_or, Some, slice_get, refl, sym, ap, ◌∙◌, subst, arith, append_assoc, length-append}
+use Rattle.mo_image.proofs.Kit.{slice_index, get_or_at, length-map, append-nil, little_number, Entry, original}
+use Rattle.mo_image.proofs.Kit.{translation, pairs, with_nul, pool, header, word_at, string_at}
+use Rattle.std.proofs.Common.{◌^◌, lit<}
+use Rattle.std.proofs.lemmas.List.{drop_at, take_at}
 use Rattle.byteorder.specs.Numbers.{little_number-reads_back}
-use Rattle.mo_image.specs.Entry.{Entry, original, translation}
-use Rattle.mo_image.specs.MoFile.{word, pairs, with_nul, pool, header, file, spelling}
+use Rattle.mo_image.specs.MoFile.{word, file, spelling}
 use Rattle.mo_image.proofs.MoLengths.{length-word, length-header, length-pairs}
-use Rattle.mo_image.specs.Tables.{word_at, string_at, strings}
+use Rattle.mo_image.specs.Tables.{strings}
 
 word_read : (n : ℕ) (rest : List ℕ) → n < 2 ^ 32 → little_number 4 (word n ++ rest) ≡ n
 unfolding word

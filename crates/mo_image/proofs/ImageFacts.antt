@@ -1,16 +1,13 @@
 -- What the MO file of a lawful map holds.
-use Rattle.std.proofs.Common.{◌≡◌, ℕ, zero, suc, ◌+◌, ◌*◌, ◌<◌, ◌≤◌, List, [], ◌∷◌, length, map, Some, slice_get, refl}
-use Rattle.std.proofs.Common.{sym, ap, ◌∙◌, subst, arith, drop}
-use Rattle.std.specs.Prelude.{IfSome, Option, slice_index}
-use Rattle.std.specs.Str.{IsUtf8}
-use Rattle.std.proofs.lemmas.List.{length-drop, length-map, length-take-le}
-use Rattle.byteorder.specs.Endian.{little_number}
-use Rattle.mo_image.specs.Entry.{Entry, key, original, translation, IsLawfulEntry}
+use Rattle.mo_image.proofs.Kit.{◌≡◌, ℕ, zero, suc, ◌+◌, ◌*◌, ◌<◌, ◌≤◌, List, [], ◌∷◌, length, map, Some, slice_get}
+use Rattle.mo_image.proofs.Kit.{refl, sym, ap, ◌∙◌, subst, arith, drop, IfSome, slice_index, IsUtf8, length-drop}
+use Rattle.mo_image.proofs.Kit.{length-map, length-take-le, little_number, Entry, key, original, translation}
+use Rattle.mo_image.proofs.Kit.{IsLawfulEntry, word_at, string_at, key_part, entry_of, IsImage, NamesText}
+use Rattle.std.specs.Prelude.{Option}
 use Rattle.mo_image.specs.Map.{IsFileOf, IsLawful}
 use Rattle.mo_image.specs.MoFile.{spelling}
-use Rattle.mo_image.specs.Tables.{word_at, string_at, strings}
-use Rattle.mo_image.specs.Pairs.{key_part, entry_of}
-use Rattle.mo_image.specs.Image.{listing, IsImage, NamesText}
+use Rattle.mo_image.specs.Tables.{strings}
+use Rattle.mo_image.specs.Image.{listing}
 use Rattle.mo_image.proofs.Lists.{slice_get-map, at_index}
 use Rattle.mo_image.proofs.FileStrings.{strings_named, Describes, spelling_describes, Names, named_at}
 use Rattle.mo_image.proofs.Originals.{entry_again_of, entries_again, key_is, original_utf8, translation_utf8}

@@ -1,9 +1,8 @@
 -- Forms joined one after another.
-use Rattle.std.proofs.Common.{◌≡◌, ℕ, zero, suc, ◌+◌, ◌<◌, ◌≤◌, List, [], ◌∷◌, ◌++◌, length, take, Some, cond, refl}
-use Rattle.std.proofs.Common.{sym, ap, ◌∙◌, arith, append_assoc}
+use Rattle.mo_image.proofs.Kit.{◌≡◌, ℕ, zero, suc, ◌+◌, ◌<◌, ◌≤◌, List, [], ◌∷◌, ◌++◌, length, take, Some, cond, refl}
+use Rattle.mo_image.proofs.Kit.{sym, ap, ◌∙◌, arith, append_assoc, join_with_byte, append-nil, length-take-le}
 use Rattle.std.specs.Prelude.{slice_get, ◌==◌}
-use Rattle.std.specs.List.{join_with_byte}
-use Rattle.std.proofs.lemmas.List.{append-nil, take_more, take_all, length-take-le}
+use Rattle.std.proofs.lemmas.List.{take_more, take_all}
 use Rattle.mo_image.proofs.Lists.{differs}
 use Rattle.std.proofs.lemmas.Option.{get_or_from_slice_get, slice_get_within}
 

@@ -3,7 +3,7 @@ use Rattle.std.proofs.Common.{◌≡◌, ℕ, ◌+◌, ◌<◌, ◌≤◌, Bool,
 use Rattle.std.proofs.Common.{get_or, take, drop, Option, Some, None, Ordering, refl, sym, ap, ◌∙◌, arith}
 use Rattle.std.specs.Prelude.{option_map}
 use Rattle.std.specs.Ordering.{nat_cmp, ordering_then}
-use Rattle.std.specs.declared.cmp.Ordering.TheVariants.{Less, Equal, Greater}
+use Rattle.std.specs.declared.cmp.Ordering.TheVariants.{Less}
 use Rattle.std.specs.Cmp.Lexicographic.{slice_cmp}
 use Rattle.std.specs.List.{position_or_len, before_first, after_first}
 use Rattle.std.proofs.lemmas.Bool.{ltb-true, eqb-true}
@@ -32,16 +32,14 @@ rejoined k = rejoined_by k (ltb (position_or_len (λ b. eqb b 4) k) (length k)) 
 
 pub then_assoc : (a b c : Ordering) → ordering_then (ordering_then a b) c ≡ ordering_then a (ordering_then b c)
 then_assoc Less b c = refl
-then_assoc Equal b c = refl
-then_assoc Greater b c = refl
+then_assoc _ b c = refl
 
 pub cmp-append : (a b x y : List ℕ) → length a ≡ length b → slice_cmp nat_cmp (a ++ x) (b ++ y)
     ≡ ordering_then (slice_cmp nat_cmp a b) (slice_cmp nat_cmp x y)
 cmp-append [] [] x y e = refl
-cmp-append [] (b ∷ bs) x y e = absurd (omega (arith, e))
-cmp-append (a ∷ xs) [] x y e = absurd (omega (arith, e))
 cmp-append (a ∷ xs) (b ∷ bs) x y e = ap (ordering_then (nat_cmp a b)) (cmp-append xs bs x y (omega (arith, e)))
     ∙ sym (then_assoc (nat_cmp a b) (slice_cmp nat_cmp xs bs) (slice_cmp nat_cmp x y))
+cmp-append _ _ x y e = absurd (omega (arith, e))
 
 -- compares a list that is no longer than b with b and more after it
 pub cmp_shorter : (a b : List ℕ) (y : ℕ) (ys : List ℕ) → length a ≤ length b → slice_cmp nat_cmp a (b ++ (y ∷ ys))

@@ -1,3 +1,4 @@
+pub mod Kit
 pub mod Lists
 pub mod KeyParts
 pub mod MoLengths

@@ -1,9 +1,8 @@
 -- Lemmas that std lacks, about numbers and about a list at an index.
-use Rattle.std.proofs.Common.{◌≡◌, ◌≢◌, true, false, eqb, ℕ, zero, suc, ◌<◌, List, [], ◌∷◌, length, map, get_or, Some}
-use Rattle.std.proofs.Common.{slice_get, refl, sym, ap, ◌∙◌, subst, arith}
-use Rattle.std.specs.List.{AllByRecursion}
-use Rattle.std.proofs.lemmas.Bool.{eqb-true}
-use Rattle.std.proofs.lemmas.List.{get_or-map, length-map}
+use Rattle.mo_image.proofs.Kit.{◌≡◌, true, false, eqb, ℕ, zero, suc, ◌<◌, List, [], ◌∷◌, length, map, get_or, Some}
+use Rattle.mo_image.proofs.Kit.{slice_get, refl, sym, ap, ◌∙◌, subst, arith, AllByRecursion, eqb-true, length-map}
+use Rattle.std.proofs.Common.{◌≢◌}
+use Rattle.std.proofs.lemmas.List.{get_or-map}
 use Rattle.std.proofs.lemmas.Option.{slice_get_read}
 
 pub differs : (a b : ℕ) → a ≢ b → eqb a b ≡ false

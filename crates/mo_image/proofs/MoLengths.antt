@@ -1,10 +1,8 @@
 -- The lengths of the parts of an MO file.
-use Rattle.std.proofs.Common.{◌≡◌, ℕ, ◌+◌, ◌*◌, ◌<◌, List, [], ◌∷◌, ◌++◌, length, map, refl, sym, ap, ◌∙◌, arith}
-use Rattle.std.proofs.Common.{append_assoc, length-append}
-use Rattle.std.specs.List.{join_with_byte}
-use Rattle.std.proofs.lemmas.List.{length-map, append-nil}
-use Rattle.mo_image.specs.Entry.{Entry, original, translation}
-use Rattle.mo_image.specs.MoFile.{word, pairs, with_nul, pool, header, file, spelling}
+use Rattle.mo_image.proofs.Kit.{◌≡◌, ℕ, ◌+◌, ◌*◌, ◌<◌, List, [], ◌∷◌, ◌++◌, length, map, refl, sym, ap, ◌∙◌, arith}
+use Rattle.mo_image.proofs.Kit.{append_assoc, length-append, join_with_byte, length-map, append-nil, Entry, original}
+use Rattle.mo_image.proofs.Kit.{translation, pairs, with_nul, pool, header}
+use Rattle.mo_image.specs.MoFile.{word, file, spelling}
 
 pub length-with_nul : (s : List ℕ) → length (with_nul s) ≡ length s + 1
 length-with_nul s = length-append s (0 ∷ [])

@@ -15,9 +15,8 @@ use Rattle.std.proofs.lemmas.List.{take_all, get_or_at}
 use Rattle.std.proofs.lemmas.List.Sums.{passes_at_first, split_at_first}
 use Rattle.std.proofs.lemmas.List.Splits.{join_with_byte-slice_split}
 use Rattle.std.proofs.lemmas.Str.{IsUtf8-append, IsUtf8-nil}
-use Rattle.mo_image.specs.Entry.{Entry, key, key_bytes, with_plural, original, translation}
-use Rattle.mo_image.specs.Entry.{LacksByte, IsText, IsKeyText}
-use Rattle.mo_image.specs.Entry.{IsLawfulEntry}
+use Rattle.mo_image.specs.Entry.{Entry, key, key_bytes, with_plural, original, translation, LacksByte, IsText}
+use Rattle.mo_image.specs.Entry.{IsKeyText, IsLawfulEntry}
 use Rattle.mo_image.specs.Parts.{cut, entry_from}
 use Rattle.mo_image.specs.Pairs.{key_part, plural_part, entry_of, paired_entries, HasNulAt}
 use Rattle.mo_image.proofs.EntryParts.{cut-none, cut-some, key_lacks_nul, entry_again}
@@ -177,9 +176,8 @@ uncut_if text None test e some so = uncut text (sym e)
 uncut_if text (Some p) test e some so = absurd (false≢true (sym (some ∙ ap not so)))
 
 by_first : (o p q : Ordering) → (o ≡ Equal → p ≡ q) → ordering_then o p ≡ ordering_then o q
-by_first Less p q h = refl
 by_first Equal p q h = h refl
-by_first Greater p q h = refl
+by_first _ p q h = refl
 
 one_longer : (x b : ℕ) (k bs : List ℕ) → x ≡ b → k ≡ bs → x ∷ k ≡ b ∷ bs
 one_longer x b k bs e f = cc

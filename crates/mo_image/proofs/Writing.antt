@@ -1,17 +1,16 @@
 -- The parts of an MO file, string by string, and the file of its parts.
-use Rattle.std.proofs.Common.{◌≡◌, ℕ, ◌+◌, ◌*◌, ◌≤◌, List, [], ◌∷◌, ◌++◌, length, drop, Some, slice_get, refl, sym, ap}
-use Rattle.std.proofs.Common.{◌∙◌, arith, append_assoc, length-append}
+use Rattle.mo_image.proofs.Kit.{◌≡◌, ℕ, ◌+◌, ◌*◌, ◌≤◌, List, [], ◌∷◌, ◌++◌, length, drop, Some, slice_get, refl, sym}
+use Rattle.mo_image.proofs.Kit.{ap, ◌∙◌, arith, append_assoc, length-append, Entry, pairs, with_nul, pool, header}
+use Rattle.mo_image.proofs.Kit.{string_of, strings_of}
 use Rattle.std.proofs.lemmas.List.{drop_more}
 use Rattle.std.proofs.lemmas.List.Concat.{flat_map-cons}
 use Rattle.std.proofs.lemmas.Option.{get_or_from_slice_get, slice_get_within}
-use Rattle.mo_image.specs.Entry.{Entry}
-use Rattle.mo_image.specs.MoFile.{word, pairs, with_nul, pool, header, spelling}
+use Rattle.mo_image.specs.MoFile.{word, spelling}
 use Rattle.mo_image.specs.Map.{IsLawful}
 use Rattle.mo_image.proofs.Lists.{slice_get-map}
 use Rattle.mo_image.proofs.MoLengths.{length-with_nul, length-spelling}
 use Rattle.mo_image.specs.declared.writer.Side.{Side}
 use Rattle.mo_image.specs.declared.writer.Side.TheVariants.{Original, Translation}
-use Rattle.mo_image.specs.Strings.{string_of, strings_of}
 
 drop_found : {X : Type 0} (xs : List X) (i : ℕ) (x : X) → slice_get xs i ≡ Some x → drop i xs ≡ x ∷ drop (i + 1) xs
 drop_found xs i x found = drop_more xs i x (slice_get_within xs i x found)

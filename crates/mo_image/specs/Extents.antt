@@ -39,8 +39,8 @@ pub record AreTextsOf (bytes : List ℕ) (n i : ℕ) (texts : TextExtents) : Typ
 abbrev pub no_len : ℕ
 no_len = 255
 
-abbrev pub unpacked : EntryExtents → TextExtents
-unpacked extents = record {
+abbrev pub text_extents : EntryExtents → TextExtents
+text_extents extents = record {
   original = record { start = extents.original; len = extents.key_len + extents.rest_len };
   translation = record { start = extents.translation; len = extents.translation_len };
   key_len = extents.key_len;
@@ -50,7 +50,7 @@ unpacked extents = record {
 pub record AreExtentsOf (bytes : List ℕ) (n i : ℕ) (extents : EntryExtents) : Type 0 where
   pub within : i < n
   pub long : extents.key_len ≡ no_len → extents.original ≡ i
-  pub short : (extents.key_len ≡ no_len → ⊥) → AreTextsOf bytes n i (unpacked extents)
+  pub short : (extents.key_len ≡ no_len → ⊥) → AreTextsOf bytes n i (text_extents extents)
 
 -- the extents of one of the n entries
 abbrev pub AreExtents : List ℕ → ℕ → EntryExtents → Type 0

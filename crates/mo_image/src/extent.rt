@@ -2,7 +2,7 @@
 ghost use Rattle.std.specs.Prelude.{◌≡◌, ◌+◌, ◌≤◌, length, IfNone, IfSome};
 ghost use Rattle.byteorder.specs.Endian.{little_number};
 ghost use Rattle.mo_image.specs.Tables.{word_at};
-ghost use Rattle.mo_image.specs.Extents.{no_len, piece, unpacked, HoldsWithNul, HoldsPiece, IsNamedAt};
+ghost use Rattle.mo_image.specs.Extents.{no_len, piece, text_extents, HoldsWithNul, HoldsPiece, IsNamedAt};
 ghost use Rattle.mo_image.specs.MoFile.{with_nul};
 
 use byteorder::{ByteOrder, LittleEndian};
@@ -56,7 +56,7 @@ impl EntryExtents {
     pub(crate) fn new(texts: &TextExtents, i: u32) -> EntryExtents
         requires { texts.now.key_len ≤ texts.now.original.len }
         ensures long { result.key_len ≡ no_len → result.original ≡ i }
-        ensures short { (result.key_len ≡ no_len → ⊥) → unpacked result ≡ texts.now }
+        ensures short { (result.key_len ≡ no_len → ⊥) → text_extents result ≡ texts.now }
     {
         let key = texts.key_len;
         let rest = texts.original.len - key;
@@ -96,7 +96,7 @@ impl EntryExtents {
     /// Unpacks the extents of the texts.
     #[inline(always)]
     pub(crate) fn unpacked(&self) -> TextExtents
-        ensures { result ≡ unpacked self.now }
+        ensures { result ≡ text_extents self.now }
     {
         let key_len = u32::from(self.key_len);
         TextExtents {

@@ -1,13 +1,11 @@
 -- Runs of blocks with the same numbers have the same bytes.
-use Rattle.std.proofs.Common.{◌≡◌, ◌≢◌, ℕ, zero, suc, ◌+◌, ◌-◌, ◌<◌, List, [], ◌∷◌, ◌++◌, length, get_or, inl, inr}
-use Rattle.std.proofs.Common.{Some, None, refl, sym, ap, subst, ◌∙◌, arith}
+use Rattle.mo_tables.proofs.Kit.{◌≡◌, ◌≢◌, ℕ, zero, suc, ◌+◌, ◌-◌, ◌<◌, List, [], ◌∷◌, ◌++◌, length, get_or, inl, inr}
+use Rattle.mo_tables.proofs.Kit.{Some, None, refl, sym, ap, subst, ◌∙◌, arith, cases_lt, part, AreAlike, IsAlike}
+use Rattle.mo_tables.proofs.Kit.{AreFirsts}
 use Rattle.std.specs.Prelude.{Option}
 use Rattle.std.specs.Option.{IfSome, unwrap_or}
-use Rattle.std.proofs.lemmas.Bool.{cases_lt}
 use Rattle.std.proofs.lemmas.List.{get_or_append_left, get_or-append_right}
-use Rattle.mo_tables.specs.FileParts.{part}
-use Rattle.mo_tables.specs.Claims.{AreAlike, IsAlike}
-use Rattle.mo_tables.specs.Blocks.{IsText, LacksNul, AreSame, AreFirsts}
+use Rattle.mo_tables.specs.Blocks.{IsText, LacksNul, AreSame}
 use Rattle.mo_tables.proofs.PartLemmas.{length-part}
 use Rattle.mo_tables.proofs.GapLemmas.{byte_in_part}
 use Rattle.mo_tables.proofs.KeyOrder.{both_alike, at_end}

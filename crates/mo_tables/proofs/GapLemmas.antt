@@ -1,14 +1,11 @@
 -- Searches for a byte in parts of a file: what they find, and how often the byte occurs.
-use Rattle.std.proofs.Common.{◌≡◌, ℕ, ◌+◌, ◌-◌, ◌<◌, ◌≤◌, List, length, take, drop, get_or, Some, None, sym, ap, ◌∙◌}
-use Rattle.std.proofs.Common.{arith, inl, inr, refl, min, cond, eqb, Bool, true, false}
-use Rattle.std.proofs.lemmas.Bool.{cases_lt, eqb-true, eq-eqb}
-use Rattle.std.proofs.lemmas.List.{get_or-drop, get_or-take, drop-take, drop-drop, take-take}
+use Rattle.mo_tables.proofs.Kit.{◌≡◌, ℕ, ◌+◌, ◌-◌, ◌<◌, ◌≤◌, List, length, take, drop, get_or, Some, None, sym, ap, ◌∙◌}
+use Rattle.mo_tables.proofs.Kit.{arith, inl, inr, refl, min, cond, eqb, Bool, true, false, cases_lt, eqb-true, eq-eqb}
+use Rattle.mo_tables.proofs.Kit.{get_or-drop, count_by, position_or_len, IsFirstByte, is_byte, before_nul, part}
+use Rattle.std.proofs.lemmas.List.{get_or-take, drop-take, drop-drop, take-take}
 use Rattle.std.proofs.lemmas.List.Sums.{position_or_len_is, sum_by-take-drop}
-use Rattle.std.specs.List.{count_by, position_or_len}
-use Rattle.bstr.specs.Find.{IsFirstByte, is_byte}
-use Rattle.mo_tables.specs.MoTables.{before_nul}
 use Rattle.mo_tables.specs.declared.gap.Gap.{Gap}
-use Rattle.mo_tables.specs.FileParts.{part, IsGap, Ends}
+use Rattle.mo_tables.specs.FileParts.{IsGap, Ends}
 use Rattle.mo_tables.proofs.PartLemmas.{length-part}
 use Rattle.mo_tables.proofs.Cuts.{is, count_absent, count_past}
 

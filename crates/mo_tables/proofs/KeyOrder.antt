@@ -1,24 +1,20 @@
 -- The order of two keys, by the first offset where they differ.
-use Rattle.std.proofs.Common.{◌≡◌, ◌≢◌, ◌↔◌, ℕ, zero, suc, ◌+◌, ◌<◌, ◌≤◌, List, [], ◌∷◌, take, drop, get_or, cond, not}
-use Rattle.std.proofs.Common.{eqb, Bool, true, false}
-use Rattle.std.proofs.Common.{◌-◌, ◌*◌, ◌/◌, ◌%◌, length, min, max, None, inl, inr, refl, sym, ap, ◌∙◌, arith}
-use Rattle.std.proofs.lemmas.Bool.{eqb-true, eq-eqb, cases_lt}
-use Rattle.std.specs.List.{position_or_len}
-use Rattle.std.specs.Ordering.{nat_cmp, ordering_then}
-use Rattle.std.specs.declared.cmp.Ordering.TheVariants.{Less, Equal, Greater}
-use Rattle.std.specs.Cmp.Lexicographic.{slice_cmp}
+use Rattle.mo_tables.proofs.Kit.{◌≡◌, ◌≢◌, ◌↔◌, ℕ, zero, suc, ◌+◌, ◌<◌, ◌≤◌, List, [], ◌∷◌, take, drop, get_or, cond}
+use Rattle.mo_tables.proofs.Kit.{eqb, Bool, true, false, ◌-◌, ◌*◌, length, min, None, inl, inr, refl, sym, ap, ◌∙◌}
+use Rattle.mo_tables.proofs.Kit.{arith, eqb-true, eq-eqb, cases_lt, position_or_len, nat_cmp, Less, slice_cmp}
+use Rattle.mo_tables.proofs.Kit.{get_or-drop, IsFirstByte, is_byte, before_nul, part, AreAlike, IsAlike}
+use Rattle.std.proofs.Common.{not, ◌/◌, ◌%◌, max}
+use Rattle.std.specs.Ordering.{ordering_then}
+use Rattle.std.specs.declared.cmp.Ordering.TheVariants.{Equal, Greater}
 use Rattle.std.specs.Cmp.{nat_cmp_is}
 use Rattle.std.proofs.lemmas.Cmp.{nat_cmp_total, tied_itself}
 use Rattle.std.specs.Str.{bytes_eq}
 use Rattle.std.proofs.lemmas.Nat.{div-add-mod'}
 use Rattle.std.proofs.Math.Nat.{suc-mul}
-use Rattle.std.proofs.lemmas.List.{get_or-drop, take_rest}
+use Rattle.std.proofs.lemmas.List.{take_rest}
 use Rattle.std.proofs.lemmas.Slice.Eq.{bytes_eq-Decides}
-use Rattle.bstr.specs.Find.{IsFirstByte, is_byte}
-use Rattle.mo_tables.specs.MoTables.{before_nul}
-use Rattle.mo_tables.specs.FileParts.{part}
 use Rattle.mo_tables.specs.declared.claims.Alike.{Alike}
-use Rattle.mo_tables.specs.Claims.{AreAlike, IsAlike, EndsThere, key_from}
+use Rattle.mo_tables.specs.Claims.{EndsThere, key_from}
 use Rattle.mo_tables.proofs.Cuts.{is}
 use Rattle.mo_tables.proofs.PartLemmas.{length-part}
 use Rattle.mo_tables.proofs.GapLemmas.{byte_in_part}

@@ -1,3 +1,4 @@
+pub mod Kit
 pub mod Cuts
 pub mod RowLemmas
 pub mod PartLemmas

@@ -1,16 +1,12 @@
 -- Parts of a file: parts of parts, two that join, and which of them are UTF-8.
-use Rattle.std.proofs.Common.{◌≡◌, ℕ, ◌+◌, ◌-◌, ◌<◌, ◌≤◌, List, ◌++◌, length, take, drop, get_or, sym, ap, ◌∙◌, subst}
-use Rattle.std.proofs.Common.{arith}
-use Rattle.std.proofs.Common.{inl, inr}
-use Rattle.std.specs.Str.{IsUtf8, IsCharBoundary}
-use Rattle.std.proofs.lemmas.Bool.{cases_lt}
-use Rattle.std.proofs.lemmas.List.{length-take-le, length-drop, take-take, drop-drop, drop-take, get_or-drop}
-use Rattle.std.proofs.lemmas.List.{get_or-take}
+use Rattle.mo_tables.proofs.Kit.{◌≡◌, ℕ, ◌+◌, ◌-◌, ◌<◌, ◌≤◌, List, ◌++◌, length, take, drop, get_or, sym, ap, ◌∙◌}
+use Rattle.mo_tables.proofs.Kit.{subst, arith, inl, inr, IsUtf8, cases_lt, length-drop, get_or-drop, part, IsStretch}
+use Rattle.std.specs.Str.{IsCharBoundary}
+use Rattle.std.proofs.lemmas.List.{length-take-le, take-take, drop-drop, drop-take, get_or-take}
 use Rattle.std.proofs.Math.Seq.{take-add}
 use Rattle.std.proofs.lemmas.Str.{IsUtf8-drop, IsUtf8-nil, IsUtf8-append, IsUtf8-between, IsCharBoundary-start}
 use Rattle.std.proofs.lemmas.Str.{IsCharBoundary-from_take}
 use Rattle.mo_tables.specs.declared.stretch.Stretch.{Stretch}
-use Rattle.mo_tables.specs.FileParts.{part, IsStretch}
 
 same : (m n : ℕ) (bytes : List ℕ) → m ≡ n → drop m bytes ≡ drop n bytes
 same m n bytes e = ap (λ k. drop k bytes) e

@@ -1,12 +1,11 @@
 -- The rows of a table, one after another.
-use Rattle.std.proofs.Common.{◌≡◌, ℕ, zero, suc, ◌+◌, ◌-◌, ◌*◌, ◌<◌, List, ◌∷◌, ◌++◌, length, drop, refl, ap, ◌∙◌}
-use Rattle.std.proofs.Common.{subst, arith, length-append}
-use Rattle.std.proofs.lemmas.List.{length-take-le, length-drop}
+use Rattle.mo_tables.proofs.Kit.{◌≡◌, ℕ, zero, suc, ◌+◌, ◌-◌, ◌*◌, ◌<◌, List, ◌∷◌, ◌++◌, length, drop, refl, ap, ◌∙◌}
+use Rattle.mo_tables.proofs.Kit.{subst, arith, length-drop, word_at, string_at, strings, StringLies}
+use Rattle.std.proofs.Common.{length-append}
+use Rattle.std.proofs.lemmas.List.{length-take-le}
 use Rattle.std.proofs.lemmas.List.Concat.{flat_map-cons}
 use Rattle.mo_image.specs.MoFile.{with_nul, pool, file}
 use Rattle.mo_image.proofs.MoLengths.{length-word, length-pairs, length-with_nul}
-use Rattle.mo_image.specs.Tables.{word_at, string_at, strings}
-use Rattle.mo_tables.specs.MoTables.{StringLies}
 
 pub length-strings : (number : ℕ → List ℕ → ℕ) (bytes : List ℕ) (offset n : ℕ) → length (strings number bytes offset n)
     ≡ n

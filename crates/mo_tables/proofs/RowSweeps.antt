@@ -1,48 +1,44 @@
 -- The rows of two tables, one after another: the translations of originals without a plural.
-use Rattle.std.proofs.Common.{◌≡◌, ℕ, ◌+◌, ◌<◌, List, [], ◌∷◌, ◌++◌, length, take, get_or, cond, eqb, Bool, true, false}
-use Rattle.std.proofs.Common.{◌≤◌, Some, None, refl, sym, ap, ◌∙◌, subst, arith}
-use Rattle.std.proofs.lemmas.Bool.{eqb-true, eq-eqb}
+use Rattle.mo_tables.proofs.Kit.{◌≡◌, ℕ, ◌+◌, ◌<◌, List, [], ◌∷◌, ◌++◌, length, take, get_or, cond, eqb, Bool, true}
+use Rattle.mo_tables.proofs.Kit.{false, ◌≤◌, Some, None, refl, sym, ap, ◌∙◌, subst, arith, eqb-true, eq-eqb, All}
+use Rattle.mo_tables.proofs.Kit.{IsUtf8, Row, Span, HasFewSeparators, text_in, nuls, HasTexts, HasForms, RowLies}
 use Rattle.std.proofs.lemmas.List.{take_more, append-nil}
 use Rattle.std.proofs.lemmas.List.Elements.{filter_map-append, All-nil, All-cons, All-tail}
-use Rattle.std.specs.Prelude.{All}
-use Rattle.std.specs.Str.{IsUtf8}
 use Rattle.std.specs.List.{filter_map, cons_option}
 use Rattle.std.specs.List.Sorted.{IsPermutation}
 use Rattle.std.proofs.lemmas.List.Sorted.{All-permutation, IsPermutation-sym}
-use Rattle.mo_tables.specs.declared.rows.Row.{Row}
-use Rattle.mo_tables.specs.declared.rows.Span.{Span}
-use Rattle.mo_tables.specs.FileParts.{HasFewSeparators}
-use Rattle.mo_tables.specs.Rows.{text_in, nuls, alone, HasTexts, HasForms, LiesIn, RowLies}
+use Rattle.mo_tables.specs.Rows.{single_translation, LiesIn}
 
 not_true : (b : Bool) → (b ≡ true → ⊥) → b ≡ false
 not_true true h = absurd (h refl)
 not_true false h = refl
 
 next : (bytes : List ℕ) (rows : List Row) (i : ℕ) (d : Row) → i < length rows
-    → filter_map (alone bytes) (take (i + 1) rows)
-    ≡ filter_map (alone bytes) (take i rows) ++ filter_map (alone bytes) (get_or rows i d ∷ [])
-next bytes rows i d lt = ap (filter_map (alone bytes)) (take_more rows i d lt)
-    ∙ filter_map-append (alone bytes) (take i rows) (get_or rows i d ∷ [])
+    → filter_map (single_translation bytes) (take (i + 1) rows)
+    ≡ filter_map (single_translation bytes) (take i rows)
+    ++ filter_map (single_translation bytes) (get_or rows i d ∷ [])
+next bytes rows i d lt = ap (filter_map (single_translation bytes)) (take_more rows i d lt)
+    ∙ filter_map-append (single_translation bytes) (take i rows) (get_or rows i d ∷ [])
 
 -- an original without a plural
 pub one_more : (bytes : List ℕ) (rows : List Row) (i : ℕ) (d : Row) → i < length rows
     → nuls (text_in bytes (get_or rows i d).original) ≡ 0
-    → filter_map (alone bytes) (take (i + 1) rows)
-    ≡ filter_map (alone bytes) (take i rows) ++ (get_or rows i d).translation ∷ []
+    → filter_map (single_translation bytes) (take (i + 1) rows)
+    ≡ filter_map (single_translation bytes) (take i rows) ++ (get_or rows i d).translation ∷ []
 one_more bytes rows i d lt none = next bytes rows i d lt
-    ∙ ap (λ b. filter_map (alone bytes) (take i rows) ++ cons_option (cond b (Some
+    ∙ ap (λ b. filter_map (single_translation bytes) (take i rows) ++ cons_option (cond b (Some
     (get_or rows i d).translation) None) [])
     (eq-eqb _ 0 none)
 
 -- an original with a plural
 pub no_more : (bytes : List ℕ) (rows : List Row) (i : ℕ) (d : Row) → i < length rows
     → 0 < nuls (text_in bytes (get_or rows i d).original)
-    → filter_map (alone bytes) (take (i + 1) rows) ≡ filter_map (alone bytes) (take i rows)
+    → filter_map (single_translation bytes) (take (i + 1) rows) ≡ filter_map (single_translation bytes) (take i rows)
 no_more bytes rows i d lt some =
     let other : eqb (nuls (text_in bytes (get_or rows i d).original)) 0 ≡ false =
     not_true _ (λ e. omega (arith, some, eqb-true (nuls (text_in bytes (get_or rows i d).original)) 0 e)) in
     next bytes rows i d lt
-    ∙ ap (λ b. filter_map (alone bytes) (take i rows) ++ cons_option (cond b (Some
+    ∙ ap (λ b. filter_map (single_translation bytes) (take i rows) ++ cons_option (cond b (Some
     (get_or rows i d).translation) None) []) other
     ∙ append-nil _
 
@@ -103,17 +99,18 @@ forms_by bytes r rest false e one all = subst (All (OneForm bytes))
     (sym (ap (λ b. cons_option (cond b (Some r.translation) None) rest) e)) all
 
 -- the translations of originals without a plural have one form
-pub alone_from : (bytes : List ℕ) (rs : List Row) → All (OneForm bytes) (filter_map (alone bytes) rs)
+pub alone_from : (bytes : List ℕ) (rs : List Row) → All (OneForm bytes) (filter_map (single_translation bytes) rs)
     → All (Alone bytes) rs
 alone_from bytes [] all = All-nil (Alone bytes)
 alone_from bytes (r ∷ rs) all =
-    let both = alone_by bytes r (filter_map (alone bytes) rs) (eqb (nuls (text_in bytes r.original)) 0) refl all in
+    let both = alone_by bytes r (filter_map (single_translation bytes) rs) (eqb (nuls (text_in bytes r.original)) 0)
+    refl all in
     All-cons (Alone bytes) r rs both.0 (alone_from bytes rs both.1)
 
 pub alone_to : (bytes : List ℕ) (rs : List Row) → All (Alone bytes) rs
-    → All (OneForm bytes) (filter_map (alone bytes) rs)
+    → All (OneForm bytes) (filter_map (single_translation bytes) rs)
 alone_to bytes [] all = All-nil (OneForm bytes)
-alone_to bytes (r ∷ rs) all = forms_by bytes r (filter_map (alone bytes) rs) (eqb (nuls
+alone_to bytes (r ∷ rs) all = forms_by bytes r (filter_map (single_translation bytes) rs) (eqb (nuls
     (text_in bytes r.original)) 0) refl
     (all 0 r (omega arith)) (alone_to bytes rs (All-tail (Alone bytes) r rs all))
 
@@ -125,9 +122,9 @@ lies_by bytes r rest all here false = all
 
 -- those translations lie in the file
 pub alone_lie : (bytes : List ℕ) (rs : List Row) → All (RowLies bytes) rs
-    → All (LiesIn bytes) (filter_map (alone bytes) rs)
+    → All (LiesIn bytes) (filter_map (single_translation bytes) rs)
 alone_lie bytes [] all = All-nil (LiesIn bytes)
-alone_lie bytes (r ∷ rs) all = lies_by bytes r (filter_map (alone bytes) rs)
+alone_lie bytes (r ∷ rs) all = lies_by bytes r (filter_map (single_translation bytes) rs)
     (alone_lie bytes rs (All-tail (RowLies bytes) r rs all)) (all 0 r (omega arith)).1
     (eqb (nuls (text_in bytes r.original)) 0)
 

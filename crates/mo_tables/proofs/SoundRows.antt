@@ -1,18 +1,11 @@
 -- What one pass over the rows has established.
-use Rattle.std.proofs.Common.{◌≡◌, ℕ, ◌+◌, ◌-◌, ◌*◌, ◌<◌, ◌≤◌, List, [], ◌∷◌, length, sym, ap, ◌∙◌, subst, arith, inl}
-use Rattle.std.proofs.Common.{inr}
+use Rattle.mo_tables.proofs.Kit.{◌≡◌, ℕ, ◌+◌, ◌-◌, ◌*◌, ◌<◌, ◌≤◌, List, [], ◌∷◌, length, sym, ap, ◌∙◌, subst, arith}
+use Rattle.mo_tables.proofs.Kit.{inl, inr, nat_cmp, Less, slice_cmp, cases_lt, Span, part, word_at, string_at, table_at}
+use Rattle.mo_tables.proofs.Kit.{before_nul, HasNul, HasLawfulHeader, text_in}
 use Rattle.std.specs.Prelude.{slice_index}
-use Rattle.std.specs.Ordering.{nat_cmp}
-use Rattle.std.specs.declared.cmp.Ordering.TheVariants.{Less, Equal, Greater}
-use Rattle.std.specs.Cmp.Lexicographic.{slice_cmp}
-use Rattle.std.proofs.lemmas.Bool.{cases_lt}
-use Rattle.mo_tables.specs.declared.rows.Span.{Span}
-use Rattle.mo_tables.specs.FileParts.{part}
-use Rattle.mo_image.specs.Tables.{word_at, string_at}
-use Rattle.mo_tables.specs.MoTables.{table_at, before_nul, HasNul, TableLies, IsOriginalText, IsTranslationText}
-use Rattle.mo_tables.specs.MoTables.{HasLawfulForms}
-use Rattle.mo_tables.specs.MoTables.{HasLawfulHeader, AreSound}
-use Rattle.mo_tables.specs.Rows.{span_at, text_in}
+use Rattle.std.specs.declared.cmp.Ordering.TheVariants.{Equal, Greater}
+use Rattle.mo_tables.specs.MoTables.{TableLies, IsOriginalText, IsTranslationText, HasLawfulForms, AreSound}
+use Rattle.mo_tables.specs.Rows.{span_at}
 use Rattle.mo_tables.proofs.TableRows.{text_is}
 
 -- an original and its translation are texts with lawful forms

@@ -1,44 +1,39 @@
 -- The rows of two tables as a list: a test of the list is a test of the tables.
-use Rattle.std.proofs.Common.{◌≡◌, ◌↔◌, ℕ, zero, suc, ◌+◌, ◌-◌, ◌*◌, ◌<◌, List, [], ◌∷◌, length, take, drop}
-use Rattle.std.proofs.Common.{get_or}
-use Rattle.std.proofs.Common.{refl, sym, ap, ◌∙◌, subst, arith, inl, inr}
-use Rattle.std.specs.Prelude.{All}
-use Rattle.std.specs.Ordering.{nat_cmp}
-use Rattle.std.specs.Cmp.Lexicographic.{slice_cmp}
-use Rattle.std.proofs.lemmas.Bool.{cases_lt}
-use Rattle.std.proofs.lemmas.List.{get_or_append_left, get_or_push, length_push, get_or-drop, length-drop}
+use Rattle.mo_tables.proofs.Kit.{◌≡◌, ◌↔◌, ℕ, zero, suc, ◌+◌, ◌-◌, ◌*◌, ◌<◌, List, [], ◌∷◌, length, take, drop, get_or}
+use Rattle.mo_tables.proofs.Kit.{refl, sym, ap, ◌∙◌, subst, arith, inl, inr, All, nat_cmp, slice_cmp, cases_lt}
+use Rattle.mo_tables.proofs.Kit.{get_or-drop, length-drop, Row, word_at, string_at, table_at, before_nul, HasNul}
+use Rattle.mo_tables.proofs.Kit.{StringLies, rows, text_in, RowLies, HasTexts, HasForms, ClaimHolds}
+use Rattle.std.proofs.lemmas.List.{get_or_append_left, get_or_push, length_push}
 use Rattle.std.proofs.lemmas.List.Elements.{All-nil, All-push}
-use Rattle.mo_tables.specs.declared.rows.Row.{Row}
-use Rattle.mo_image.specs.Tables.{word_at, string_at}
-use Rattle.mo_tables.specs.MoTables.{table_at, before_nul, HasNul, StringLies, TableLies, AllHaveNul, KeysRise}
-use Rattle.mo_tables.specs.MoTables.{IsOriginalText, IsTranslationText, HasLawfulForms}
+use Rattle.mo_tables.specs.MoTables.{TableLies, AllHaveNul, KeysRise, IsOriginalText, IsTranslationText, HasLawfulForms}
 use Rattle.mo_tables.specs.MoTables.{AreOriginalTexts, AreTranslationTexts, HaveLawfulForms}
-use Rattle.mo_tables.specs.Rows.{listed, rows, row_at, span_at, text_in, RowLies, HasTexts, HasForms}
-use Rattle.mo_tables.specs.Claims.{key_from, claim_at, claims_to, original_of, nowhere, ClaimHolds, ClaimLies}
+use Rattle.mo_tables.specs.Rows.{first_elements, row_at, span_at}
+use Rattle.mo_tables.specs.Claims.{key_from, claim_at, claims_to, original_of, empty_row, ClaimLies}
 use Rattle.mo_tables.proofs.KeyOrder.{key_with_nul}
 
 -- ---- the first elements of a sequence
 
-pub length-listed : {X : Type 0} (f : ℕ → X) (n : ℕ) → length (listed f n) ≡ n
+pub length-listed : {X : Type 0} (f : ℕ → X) (n : ℕ) → length (first_elements f n) ≡ n
 length-listed f zero = refl
-length-listed f (suc n) = omega (arith, length_push (listed f n) (f n), length-listed f n)
+length-listed f (suc n) = omega (arith, length_push (first_elements f n) (f n), length-listed f n)
 
-pub listed_at : {X : Type 0} (f : ℕ → X) (n i : ℕ) (d : X) → i < n → get_or (listed f n) i d ≡ f i
+pub listed_at : {X : Type 0} (f : ℕ → X) (n i : ℕ) (d : X) → i < n → get_or (first_elements f n) i d ≡ f i
 listed_at f zero i d lt = absurd (omega (arith, lt))
 listed_at f (suc n) i d lt = elim (cases_lt i n) [
-  | inl less ↦ get_or_append_left (listed f n) (f n ∷ []) d i (omega (arith, less, length-listed f n))
+  | inl less ↦ get_or_append_left (first_elements f n) (f n ∷ []) d i (omega (arith, less, length-listed f n))
       ∙ listed_at f n i d less
   | inr ge ↦
       let e : n ≡ i = omega (arith, ge, lt) in
-      get_or_push (listed f n) (f n) d i (length-listed f n ∙ e) ∙ ap f e
+      get_or_push (first_elements f n) (f n) d i (length-listed f n ∙ e) ∙ ap f e
 ]
 
-pub all_of : {X : Type 0} (P : X → Type 0) (f : ℕ → X) (n : ℕ) → ((i : ℕ) → i < n → P (f i)) → All P (listed f n)
+pub all_of : {X : Type 0} (P : X → Type 0) (f : ℕ → X) (n : ℕ) → ((i : ℕ) → i < n → P (f i))
+    → All P (first_elements f n)
 all_of P f zero each = All-nil P
-all_of P f (suc n) each = All-push P (listed f n) (f n) (all_of P f n (λ i lt. each i (omega (arith, lt))))
+all_of P f (suc n) each = All-push P (first_elements f n) (f n) (all_of P f n (λ i lt. each i (omega (arith, lt))))
     (each n (omega arith))
 
-pub each_of : {X : Type 0} (P : X → Type 0) (f : ℕ → X) (n : ℕ) → All P (listed f n) → (i : ℕ) → i < n → P (f i)
+pub each_of : {X : Type 0} (P : X → Type 0) (f : ℕ → X) (n : ℕ) → All P (first_elements f n) → (i : ℕ) → i < n → P (f i)
 each_of P f n all i lt = subst P (listed_at f n i (f i) lt) (all i (f i) (omega (arith, lt, length-listed f n)))
 
 -- ---- the strings
@@ -101,7 +96,7 @@ module _ (number : ℕ → List ℕ → ℕ) (bytes : List ℕ) where
 
   start_is : (o t n i : ℕ) → i < n → (original_of (rows number bytes o t n) i).start
       ≡ word_at number bytes (o + 8 * i + 4)
-  start_is o t n i lt = ap (λ (r : Row). r.original.start) (listed_at (row_of o t) n i nowhere lt)
+  start_is o t n i lt = ap (λ (r : Row). r.original.start) (listed_at (row_of o t) n i empty_row lt)
 
   claim_is : (o t n : ℕ) → TableLies (table_at number bytes o n) → AllHaveNul (table_at number bytes o n) → (i : ℕ)
       → i + 1 < n

@@ -1,11 +1,10 @@
 -- Private: the order of keys, by where they begin.
-use Rattle.std.specs.Prelude.{◌≡◌, ◌≢◌, ℕ, ◌+◌, ◌<◌, ◌≤◌, List, length, drop}
-use Rattle.std.specs.Prelude.{slice_index, slice_index_or}
+use Rattle.std.specs.Prelude.{◌≡◌, ◌≢◌, ℕ, ◌+◌, ◌<◌, ◌≤◌, List, length, drop, slice_index, slice_index_or}
 use Rattle.std.specs.Ordering.{nat_cmp}
 use Rattle.std.specs.declared.cmp.Ordering.TheVariants.{Less}
 use Rattle.std.specs.Cmp.Lexicographic.{slice_cmp}
 use Rattle.mo_tables.specs.MoTables.{before_nul}
-use Rattle.mo_tables.specs.Rows.{listed}
+use Rattle.mo_tables.specs.Rows.{first_elements}
 use Rattle.mo_tables.specs.declared.rows.Row.{Row}
 use Rattle.mo_tables.specs.declared.rows.Span.{Span}
 use Rattle.mo_tables.specs.declared.claims.Claim.{Claim}
@@ -25,12 +24,12 @@ abbrev pub ClaimLies : List ℕ → Claim → Type 0
 ClaimLies bytes claim = (claim.lesser.start ≤ length bytes) × (claim.greater.start ≤ length bytes)
 
 -- an empty row, for an index past the end
-abbrev pub nowhere : Row
-nowhere = record { original = record { start = 0; len = 0 }; translation = record { start = 0; len = 0 } }
+abbrev pub empty_row : Row
+empty_row = record { original = record { start = 0; len = 0 }; translation = record { start = 0; len = 0 } }
 
 -- the span of the i-th original
 abbrev pub original_of : List Row → ℕ → Span
-original_of rows i = (slice_index_or rows i nowhere).original
+original_of rows i = (slice_index_or rows i empty_row).original
 
 -- the claim that the i-th key is below the next one
 abbrev pub claim_at : List Row → ℕ → Claim
@@ -38,7 +37,7 @@ claim_at rows i = record { lesser = original_of rows i; greater = original_of ro
 
 -- the claims about the first i keys and their successors
 abbrev pub claims_to : List Row → ℕ → List Claim
-claims_to rows i = listed (claim_at rows) i
+claims_to rows i = first_elements (claim_at rows) i
 
 -- the first n bytes of both are equal, and none is NUL
 abbrev pub AreAlike : List ℕ → List ℕ → ℕ → Type 0

@@ -1,6 +1,5 @@
 -- Private: parts of a file, and what is known about them.
-use Rattle.std.specs.Prelude.{◌≡◌, ◌≢◌, ℕ, ◌+◌, ◌-◌, ◌<◌, ◌≤◌, ◌==◌, List, length, take, drop, slice_index}
-use Rattle.std.specs.Prelude.{count_by}
+use Rattle.std.specs.Prelude.{◌≡◌, ◌≢◌, ℕ, ◌+◌, ◌-◌, ◌<◌, ◌≤◌, ◌==◌, List, length, take, drop, slice_index, count_by}
 use Rattle.std.specs.Str.{IsUtf8}
 use Rattle.mo_tables.specs.declared.stretch.Stretch.{Stretch}
 use Rattle.mo_tables.specs.MoTables.{before_nul}

@@ -16,13 +16,13 @@ abbrev pub row_at : (ℕ → List ℕ → ℕ) → List ℕ → ℕ → ℕ → 
 row_at number bytes o t = record { original = span_at number bytes o; translation = span_at number bytes t }
 
 -- the first n elements of a sequence
-abbrev pub listed : {X : Type 0} → (ℕ → X) → ℕ → List X
-listed f zero = []
-listed f (suc n) = listed f n ++ f n ∷ []
+abbrev pub first_elements : {X : Type 0} → (ℕ → X) → ℕ → List X
+first_elements f zero = []
+first_elements f (suc n) = first_elements f n ++ f n ∷ []
 
 -- the n rows from these offsets on
 abbrev pub rows : (ℕ → List ℕ → ℕ) → List ℕ → ℕ → ℕ → ℕ → List Row
-rows number bytes o t n = listed (λ i. row_at number bytes (o + 8 * i) (t + 8 * i)) n
+rows number bytes o t n = first_elements (λ i. row_at number bytes (o + 8 * i) (t + 8 * i)) n
 
 -- the string of a span
 abbrev pub text_in : List ℕ → Span → List ℕ
@@ -49,5 +49,5 @@ abbrev pub nuls : List ℕ → ℕ
 nuls text = count_by (λ b. b == 0) text
 
 -- the translation of an original without a plural
-abbrev pub alone : List ℕ → Row → Option Span
-alone bytes row = if nuls (text_in bytes row.original) == 0 then Some row.translation else None
+abbrev pub single_translation : List ℕ → Row → Option Span
+single_translation bytes row = if nuls (text_in bytes row.original) == 0 then Some row.translation else None

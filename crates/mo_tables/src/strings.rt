@@ -4,7 +4,7 @@ ghost use Rattle.std.specs.Prelude.{◌≡◌, ◌↔◌, ◌≤◌, ℕ, List, 
 ghost use Rattle.std.specs.List.{filter_map};
 ghost use Rattle.std.specs.Str.{IsUtf8};
 ghost use Rattle.mo_tables.specs.FileParts.{part, IsPart, IsStretch, KnowsSeparators, HasFewSeparators};
-ghost use Rattle.mo_tables.specs.Rows.{text_in, LiesIn, nuls, alone};
+ghost use Rattle.mo_tables.specs.Rows.{text_in, LiesIn, nuls, single_translation};
 
 use crate::gap::{Gap, Twice};
 use crate::rows::{Row, Span};
@@ -145,7 +145,7 @@ pub(crate) fn without_plural(
     ensures { IfOk result (λ found. MatchOption found
         (¬ All (λ row. nuls (text_in bytes.now row.original) ≤ 1) rows.now)
         (λ spans. All (λ row. nuls (text_in bytes.now row.original) ≤ 1) rows.now
-        × (spans.items ≡ filter_map (alone bytes.now) rows.now))) }
+        × (spans.items ≡ filter_map (single_translation bytes.now) rows.now))) }
 {
     let mut singular = Vec::new(alloc);
     let mut offsets = Twice::new();

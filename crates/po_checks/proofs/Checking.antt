@@ -18,7 +18,7 @@ use Rattle.po_checks.specs.Checks.{begins_with_newline, ends_with_newline, IsMix
 use Rattle.po_checks.specs.Found.{FirstLine, line_for, line_of, HasPlurals, AreFound, HasFound}
 use Rattle.po_checks.specs.Findings.{first_or, IsReadAs, is_dependent, FormatsDiffer, DiffersFrom, AddsPlural}
 use Rattle.po_checks.specs.Findings.{NewlinesDiffer, AddsFormats, AddsTexts}
-use Rattle.po_checks.specs.Kept.{is_kept, kept}
+use Rattle.po_checks.specs.Kept.{is_kept, kept_entries}
 use Rattle.po_checks.specs.declared.findings.Findings.{Findings}
 use Rattle.po_checks.specs.declared.formats.Format.{Format}
 use Rattle.po_checks.specs.declared.formats.Format.TheVariants.{Arguments, Invalid, SystemDependent}
@@ -30,14 +30,15 @@ use Rattle.po_checks.proofs.FirstLines.{any_right, any_append_cases, any_weaker}
 
 -- ---- one more entry
 
-pub kept_skip : (o : Options) (es : List po.Entry) (e : po.Entry) → is_kept o e ≡ false → kept o (es ++ e ∷ [])
-    ≡ kept o es
-kept_skip o es e lacks = filter-append (is_kept o) es (e ∷ []) ∙ ap (λ b. kept o es ++ cond b (e ∷ []) []) lacks
-    ∙ append-nil (kept o es)
+pub kept_skip : (o : Options) (es : List po.Entry) (e : po.Entry) → is_kept o e ≡ false → kept_entries o (es ++ e ∷ [])
+    ≡ kept_entries o es
+kept_skip o es e lacks = filter-append (is_kept o) es (e ∷ []) ∙ ap (λ b. kept_entries o es ++ cond b (e ∷ []) []) lacks
+    ∙ append-nil (kept_entries o es)
 
-pub kept_more : (o : Options) (es : List po.Entry) (e : po.Entry) → is_kept o e ≡ true → kept o (es ++ e ∷ [])
-    ≡ kept o es ++ e ∷ []
-kept_more o es e kept_so = filter-append (is_kept o) es (e ∷ []) ∙ ap (λ b. kept o es ++ cond b (e ∷ []) []) kept_so
+pub kept_more : (o : Options) (es : List po.Entry) (e : po.Entry) → is_kept o e ≡ true → kept_entries o (es ++ e ∷ [])
+    ≡ kept_entries o es ++ e ∷ []
+kept_more o es e kept_so = filter-append (is_kept o) es (e ∷ [])
+    ∙ ap (λ b. kept_entries o es ++ cond b (e ∷ []) []) kept_so
 
 pub found_skip : (o : Options) (es : List po.Entry) (e : po.Entry) (f : Findings) → is_kept o e ≡ false
     → HasFound o es f → HasFound o (es ++ e ∷ []) f
@@ -47,8 +48,8 @@ pub found_formats : (o : Options) (es : List po.Entry) (e : po.Entry) (old new :
     → o.checked ≡ false → AddsFormats old new e → HasFound o es old → HasFound o (es ++ e ∷ []) new
 found_formats o es e old new kept_so lacks a h = subst (λ (ks : List po.Entry). AreFound o.checked ks new)
     (sym (kept_more o es e kept_so)) (record {
-      dependent = a.dependent (kept o es) h.dependent;
-      mismatch = a.mismatch (kept o es) h.mismatch;
+      dependent = a.dependent (kept_entries o es) h.dependent;
+      mismatch = a.mismatch (kept_entries o es) h.mismatch;
       newlines = λ checked. absurd (false≢true (sym lacks ∙ checked));
       plurals = λ checked. absurd (false≢true (sym lacks ∙ checked));
     })
@@ -57,13 +58,15 @@ pub found_all : (o : Options) (es : List po.Entry) (e : po.Entry) (old mid new :
     → AddsFormats old mid e → AddsTexts mid new e → HasFound o es old → HasFound o (es ++ e ∷ []) new
 found_all o es e old mid new kept_so a b h = subst (λ (ks : List po.Entry). AreFound o.checked ks new)
     (sym (kept_more o es e kept_so)) (record {
-      dependent = subst (FirstLine HasSystemDependentText (kept o es ++ e ∷ [])) (sym b.dependent)
-          (a.dependent (kept o es) h.dependent);
-      mismatch = subst (FirstLine HasOtherArguments (kept o es ++ e ∷ [])) (sym b.mismatch)
-          (a.mismatch (kept o es) h.mismatch);
-      newlines = λ checked. b.newlines (kept o es) (subst (FirstLine HasOtherNewlines (kept o es)) (sym a.newlines)
+      dependent = subst (FirstLine HasSystemDependentText (kept_entries o es ++ e ∷ [])) (sym b.dependent)
+          (a.dependent (kept_entries o es) h.dependent);
+      mismatch = subst (FirstLine HasOtherArguments (kept_entries o es ++ e ∷ [])) (sym b.mismatch)
+          (a.mismatch (kept_entries o es) h.mismatch);
+      newlines = λ checked. b.newlines (kept_entries o es)
+          (subst (FirstLine HasOtherNewlines (kept_entries o es)) (sym a.newlines)
           (h.newlines checked));
-      plurals = λ checked. b.plurals (kept o es) (subst (HasPlurals (kept o es)) (sym a.plurals) (h.plurals checked));
+      plurals = λ checked. b.plurals (kept_entries o es)
+          (subst (HasPlurals (kept_entries o es)) (sym a.plurals) (h.plurals checked));
     })
 
 -- the line of an entry that fails
@@ -175,8 +178,7 @@ differ_is (Arguments ks) form SystemDependent rule r = (
         (lists_independent form kinds lists r)
   ]),
 )
-differ_is Invalid form f rule r = ((λ t. absurd t), (λ d. absurd d))
-differ_is SystemDependent form f rule r = ((λ t. absurd t), (λ d. absurd d))
+differ_is _ form f rule r = ((λ t. absurd t), (λ d. absurd d))
 
 -- the original, read as a format
 pub original_is : (e : po.Entry) (f : Format) (rule : Strictness) → IsReadAs (format_original e) f → rule

@@ -9,12 +9,12 @@ use Rattle.po_header.specs.Rule.{Rule, Given, Absent, Broken}
 use Rattle.po_checks.specs.Checks.{NoneOf, FirstAt, IsPlural, HasSystemDependentText, HasOtherArguments, HasOtherCount}
 use Rattle.po_checks.specs.Checks.{HasOtherNewlines, has_form, IsFirstWithoutForm}
 use Rattle.po_checks.specs.Found.{FirstFault, FailsFrom, FirstLine}
-use Rattle.po_checks.specs.Kept.{kept, header_line_of, HasHeaderRule}
+use Rattle.po_checks.specs.Kept.{kept_entries, header_line_of, HasHeaderRule}
 use Rattle.po_checks.specs.Fails.{RuleRefuses, HeaderRefuses, Fails, rank, IsFirst}
 use Rattle.po_checks.specs.declared.options.Options.{Options}
 use Rattle.po_checks.specs.declared.fault.LoadFault.{LoadFault}
 use Rattle.po_checks.specs.declared.fault.LoadKind.{LoadKind}
-use Rattle.po_checks.specs.declared.fault.LoadKind.TheVariants.{Duplicate, Charset, SystemDependent, NoRule, BadRule}
+use Rattle.po_checks.specs.declared.fault.LoadKind.TheVariants.{Duplicate, SystemDependent, NoRule, BadRule}
 use Rattle.po_checks.specs.declared.fault.LoadKind.TheVariants.{FormCount, PluralRange, FormatMismatch, NewlineMismatch}
 use Rattle.po_checks.proofs.FirstLines.{first_not_none, any_from_first, any_not_none}
 use Rattle.po_checks.proofs.Refusals.{by_rule}
@@ -57,8 +57,7 @@ form_count nplurals tree es at line f = record { holds = f; first = λ other m l
   where
     none : (other : LoadKind) (m : ℕ) → rank other < 14 → RuleRefuses (Given nplurals tree) es at other m → ⊥
     none FormCount m lt r = omega (arith, lt)
-    none (PluralRange n) m lt r = omega (arith, lt)
-    none _ m lt r = r
+    none _ m lt r = first_of (omega (arith, lt), assumption r)
 
 pub plural_range : (nplurals : ℕ) (tree : Tree) (es : List po.Entry) (at n : ℕ) → NoneOf (HasOtherCount nplurals) es
     → IsFirstWithoutForm nplurals tree n → IsFirst (RuleRefuses (Given nplurals tree) es at) (PluralRange n) at
@@ -82,21 +81,18 @@ rule_passes nplurals tree es at no_other each _ line r = r
 -- the faults from the twelfth on
 abbrev Late : Options → List po.Entry → LoadKind → ℕ → Type 0
 Late o es kind line = (HeaderRefuses o es kind line × (rank kind < 16))
-    ⊎ ((FirstAt HasOtherArguments (kept o es) line × (rank kind ≡ 16))
-    ⊎ (FirstAt HasOtherNewlines (kept o es) line × (rank kind ≡ 17)))
+    ⊎ ((FirstAt HasOtherArguments (kept_entries o es) line × (rank kind ≡ 16))
+    ⊎ (FirstAt HasOtherNewlines (kept_entries o es) line × (rank kind ≡ 17)))
 
 late : (o : Options) (es : List po.Entry) (kind : LoadKind) (line : ℕ) → 12 ≤ rank kind → Fails o es kind line
     → Late o es kind line
-late o es Duplicate line le f = absurd (omega (arith, le))
-late o es Charset line le f = absurd (omega (arith, le))
-late o es SystemDependent line le f = absurd (omega (arith, le))
 late o es NoRule line le f = inl (f.1, omega arith)
 late o es BadRule line le f = inl (f.1, omega arith)
 late o es FormCount line le f = inl (f.1, omega arith)
 late o es (PluralRange n) line le f = inl (f.1, omega arith)
 late o es FormatMismatch line le f = inr (inl (f.1, refl))
 late o es NewlineMismatch line le f = inr (inr (f.1, refl))
-late o es _ line le f = absurd f
+late o es _ line le f = absurd (first_of (omega (arith, le), assumption f))
 
 -- what is known about the rule in the header at the checked level
 pub record IsChecked (o : Options) (es : List po.Entry) (rule : Rule) (at : ℕ) : Type 0 where
@@ -105,30 +101,27 @@ pub record IsChecked (o : Options) (es : List po.Entry) (rule : Rule) (at : ℕ)
   pub at_is : at ≡ header_line_of o es
 
 rule_fails : (o : Options) (es : List po.Entry) (rule : Rule) (kind : LoadKind) (line : ℕ) → IsTrue o.checked
-    → HasHeaderRule o es rule → RuleRefuses rule (kept o es) (header_line_of o es) kind line
+    → HasHeaderRule o es rule → RuleRefuses rule (kept_entries o es) (header_line_of o es) kind line
     → FailsFrom 12 o es kind line × (rank kind < 16)
-rule_fails o es Absent NoRule line checked has r = ((omega arith, (checked, (Absent, has, r))), omega arith)
+rule_fails o es rule NoRule line checked has r = ((omega arith, (checked, (rule, has, r))), omega arith)
+rule_fails o es rule BadRule line checked has r = ((omega arith, (checked, (rule, has, r))), omega arith)
+rule_fails o es rule FormCount line checked has r = ((omega arith, (checked, (rule, has, r))), omega arith)
+rule_fails o es rule (PluralRange n) line checked has r = ((omega arith, (checked, (rule, has, r))), omega arith)
 rule_fails o es Absent _ line checked has r = absurd r
-rule_fails o es Broken BadRule line checked has r = ((omega arith, (checked, (Broken, has, r))), omega arith)
-rule_fails o es Broken _ line checked has r = absurd r
-rule_fails o es (Given nplurals tree) FormCount line checked has r =
-    ((omega arith, (checked, (Given nplurals tree, has, r))), omega arith)
-rule_fails o es (Given nplurals tree) (PluralRange n) line checked has r =
-    ((omega arith, (checked, (Given nplurals tree, has, r))), omega arith)
-rule_fails o es (Given nplurals tree) _ line checked has r = absurd r
+rule_fails o es _ _ line checked has r = absurd r
 
 refuses_at : (o : Options) (es : List po.Entry) (rule : Rule) (at : ℕ) (kind : LoadKind) (line : ℕ) → at
-    ≡ header_line_of o es → RuleRefuses rule (kept o es) at kind line
-    → RuleRefuses rule (kept o es) (header_line_of o es) kind line
-refuses_at o es rule at kind line is r = subst (λ m. RuleRefuses rule (kept o es) m kind line) is r
+    ≡ header_line_of o es → RuleRefuses rule (kept_entries o es) at kind line
+    → RuleRefuses rule (kept_entries o es) (header_line_of o es) kind line
+refuses_at o es rule at kind line is r = subst (λ m. RuleRefuses rule (kept_entries o es) m kind line) is r
 
 at_refuses : (o : Options) (es : List po.Entry) (rule : Rule) (at : ℕ) (kind : LoadKind) (line : ℕ)
-    → IsChecked o es rule at → HeaderRefuses o es kind line → RuleRefuses rule (kept o es) at kind line
-at_refuses o es rule at kind line c r = subst (λ m. RuleRefuses rule (kept o es) m kind line) (sym c.at_is)
+    → IsChecked o es rule at → HeaderRefuses o es kind line → RuleRefuses rule (kept_entries o es) at kind line
+at_refuses o es rule at kind line c r = subst (λ m. RuleRefuses rule (kept_entries o es) m kind line) (sym c.at_is)
     (by_rule o es rule kind line c.rule_is r)
 
 pub by_the_rule : (o : Options) (es : List po.Entry) (rule : Rule) (at : ℕ) (kind : LoadKind) (line : ℕ)
-    → IsChecked o es rule at → IsFirst (RuleRefuses rule (kept o es) at) kind line
+    → IsChecked o es rule at → IsFirst (RuleRefuses rule (kept_entries o es) at) kind line
     → IsFirst (FailsFrom 12 o es) kind line
 by_the_rule o es rule at kind line c f =
     let here = rule_fails o es rule kind line c.checked c.rule_is (refuses_at o es rule at kind line c.at_is f.holds) in
@@ -143,10 +136,10 @@ by_the_rule o es rule at kind line c f =
 
 -- the rule refuses nothing
 abbrev pub RulePasses : Options → List po.Entry → Rule → ℕ → Type 0
-RulePasses o es rule at = (kind : LoadKind) (line : ℕ) → ¬ RuleRefuses rule (kept o es) at kind line
+RulePasses o es rule at = (kind : LoadKind) (line : ℕ) → ¬ RuleRefuses rule (kept_entries o es) at kind line
 
 pub by_arguments : (o : Options) (es : List po.Entry) (rule : Rule) (at line : ℕ) → IsChecked o es rule at
-    → RulePasses o es rule at → FirstAt HasOtherArguments (kept o es) line
+    → RulePasses o es rule at → FirstAt HasOtherArguments (kept_entries o es) line
     → IsFirst (FailsFrom 12 o es) FormatMismatch line
 by_arguments o es rule at line c passes f = record {
   holds = (omega arith, (c.checked, f));
@@ -158,29 +151,32 @@ by_arguments o es rule at line c passes f = record {
 }
 
 pub by_newlines : (o : Options) (es : List po.Entry) (rule : Rule) (at line : ℕ) → IsChecked o es rule at
-    → RulePasses o es rule at → NoneOf HasOtherArguments (kept o es) → FirstAt HasOtherNewlines (kept o es) line
+    → RulePasses o es rule at → NoneOf HasOtherArguments (kept_entries o es)
+    → FirstAt HasOtherNewlines (kept_entries o es) line
     → IsFirst (FailsFrom 12 o es) NewlineMismatch line
 by_newlines o es rule at line c passes none f = record {
   holds = (omega arith, (c.checked, f));
   first = λ other m lt g. elim (late o es other m g.0 g.1) [
     | inl (r, below) ↦ passes other m (at_refuses o es rule at other m c r)
-    | inr (inl (r, is)) ↦ first_not_none HasOtherArguments (kept o es) m r none
+    | inr (inl (r, is)) ↦ first_not_none HasOtherArguments (kept_entries o es) m r none
     | inr (inr (r, is)) ↦ absurd (omega (arith, lt, is))
   ];
 }
 
 pub by_nothing : (o : Options) (es : List po.Entry) (rule : Rule) (at : ℕ) → IsChecked o es rule at
-    → RulePasses o es rule at → NoneOf HasOtherArguments (kept o es) → NoneOf HasOtherNewlines (kept o es)
+    → RulePasses o es rule at → NoneOf HasOtherArguments (kept_entries o es)
+    → NoneOf HasOtherNewlines (kept_entries o es)
     → (kind : LoadKind) (line : ℕ) → ¬ FailsFrom 12 o es kind line
 by_nothing o es rule at c passes none none' kind line g = elim (late o es kind line g.0 g.1) [
   | inl (r, below) ↦ passes kind line (at_refuses o es rule at kind line c r)
-  | inr (inl (r, is)) ↦ first_not_none HasOtherArguments (kept o es) line r none
-  | inr (inr (r, is)) ↦ first_not_none HasOtherNewlines (kept o es) line r none'
+  | inr (inl (r, is)) ↦ first_not_none HasOtherArguments (kept_entries o es) line r none
+  | inr (inr (r, is)) ↦ first_not_none HasOtherNewlines (kept_entries o es) line r none'
 ]
 
 -- the last of the checks
 pub by_last : (o : Options) (es : List po.Entry) (rule : Rule) (at : ℕ) (newlines : Option ℕ) → IsChecked o es rule at
-    → RulePasses o es rule at → NoneOf HasOtherArguments (kept o es) → FirstLine HasOtherNewlines (kept o es) newlines
+    → RulePasses o es rule at → NoneOf HasOtherArguments (kept_entries o es)
+    → FirstLine HasOtherNewlines (kept_entries o es) newlines
     → FirstFault (FailsFrom 12 o es) (option_map (λ line. record { kind = NewlineMismatch; line = line }) newlines)
 by_last o es rule at None c passes none none' = by_nothing o es rule at c passes none none'
 by_last o es rule at (Some line) c passes none f = by_newlines o es rule at line c passes none f
@@ -193,32 +189,26 @@ by_absence es at (Some line) f = no_rule es at line f
 
 -- ---- at both levels
 
-pub by_dependence : (o : Options) (es : List po.Entry) (line : ℕ) → FirstAt HasSystemDependentText (kept o es) line
+pub by_dependence : (o : Options) (es : List po.Entry) (line : ℕ)
+    → FirstAt HasSystemDependentText (kept_entries o es) line
     → IsFirst (FailsFrom 11 o es) SystemDependent line
 by_dependence o es line f = record { holds = (omega arith, f); first = λ other m lt g. absurd (omega (arith, lt, g.0)) }
 
 eleventh : (o : Options) (es : List po.Entry) (kind : LoadKind) (line : ℕ) → 11 ≤ rank kind → rank kind < 12
-    → Fails o es kind line → FirstAt HasSystemDependentText (kept o es) line
-eleventh o es Duplicate line le lt f = absurd (omega (arith, le))
-eleventh o es Charset line le lt f = absurd (omega (arith, le))
+    → Fails o es kind line → FirstAt HasSystemDependentText (kept_entries o es) line
 eleventh o es SystemDependent line le lt f = f
-eleventh o es NoRule line le lt f = absurd (omega (arith, lt))
-eleventh o es BadRule line le lt f = absurd (omega (arith, lt))
-eleventh o es FormCount line le lt f = absurd (omega (arith, lt))
-eleventh o es (PluralRange n) line le lt f = absurd (omega (arith, lt))
-eleventh o es FormatMismatch line le lt f = absurd (omega (arith, lt))
-eleventh o es NewlineMismatch line le lt f = absurd (omega (arith, lt))
-eleventh o es _ line le lt f = absurd f
+eleventh o es _ line le lt f = absurd (first_of (omega (arith, le, lt), assumption f))
 
 not_eleventh : (o : Options) (es : List po.Entry) (kind : LoadKind) (line : ℕ)
-    → NoneOf HasSystemDependentText (kept o es) → FailsFrom 11 o es kind line → FailsFrom 12 o es kind line
+    → NoneOf HasSystemDependentText (kept_entries o es) → FailsFrom 11 o es kind line → FailsFrom 12 o es kind line
 not_eleventh o es kind line none g = elim (cases_lt (rank kind) 12) [
-  | inl lt ↦ absurd (first_not_none HasSystemDependentText (kept o es) line (eleventh o es kind line g.0 lt g.1) none)
+  | inl lt ↦ absurd (first_not_none HasSystemDependentText (kept_entries o es) line
+      (eleventh o es kind line g.0 lt g.1) none)
   | inr ge ↦ (ge, g.1)
 ]
 
 pub from_eleventh : (o : Options) (es : List po.Entry) (fault : Option LoadFault)
-    → NoneOf HasSystemDependentText (kept o es) → FirstFault (FailsFrom 12 o es) fault
+    → NoneOf HasSystemDependentText (kept_entries o es) → FirstFault (FailsFrom 12 o es) fault
     → FirstFault (FailsFrom 11 o es) fault
 from_eleventh o es None none f = λ kind line g. f kind line (not_eleventh o es kind line none g)
 from_eleventh o es (Some fault) none f = record {
@@ -229,17 +219,10 @@ from_eleventh o es (Some fault) none f = record {
 unchecked_late : (o : Options) (es : List po.Entry) (kind : LoadKind) (line : ℕ) → 12 ≤ rank kind → Fails o es kind line
     → IsTrue o.checked
 unchecked_late o es Duplicate line le f = absurd (omega (arith, le))
-unchecked_late o es Charset line le f = absurd (omega (arith, le))
-unchecked_late o es SystemDependent line le f = absurd (omega (arith, le))
-unchecked_late o es NoRule line le f = f.0
-unchecked_late o es BadRule line le f = f.0
-unchecked_late o es FormCount line le f = f.0
-unchecked_late o es (PluralRange n) line le f = f.0
-unchecked_late o es FormatMismatch line le f = f.0
-unchecked_late o es NewlineMismatch line le f = f.0
-unchecked_late o es _ line le f = absurd f
+unchecked_late o es _ line le f = first_of (assumption f, grind (arith, le, f))
 
-pub unchecked : (o : Options) (es : List po.Entry) → o.checked ≡ false → NoneOf HasSystemDependentText (kept o es)
+pub unchecked : (o : Options) (es : List po.Entry) → o.checked ≡ false
+    → NoneOf HasSystemDependentText (kept_entries o es)
     → (kind : LoadKind) (line : ℕ) → ¬ FailsFrom 11 o es kind line
 unchecked o es off none kind line g = let h = not_eleventh o es kind line none g in false≢true
     (sym off ∙ unchecked_late o es kind line h.0 h.1)

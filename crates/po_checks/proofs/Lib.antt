@@ -3,3 +3,4 @@ pub mod Refusals
 pub mod Checking
 pub mod Faults
 pub mod Values
+pub mod OwnHeader

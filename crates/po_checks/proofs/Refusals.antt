@@ -5,15 +5,14 @@ use Rattle.std.specs.Prelude.{◌⊎◌, ◌==◌, Contains, IfSome, if◌then�
 use Rattle.std.proofs.lemmas.Bool.{cases_lt, false≢true}
 use Rattle.std.proofs.lemmas.List.{map-append, get_or_append_left, get_or_at}
 use Rattle.po_text.specs.Entries as po
-use Rattle.po_header.specs.Rule.{Rule, Given, Absent, Broken}
+use Rattle.po_header.specs.Rule.{Rule, Given, Absent, Broken, HasRuleIn}
 use Rattle.po_header.proofs.RuleLemmas.{HasRule-one}
 use Rattle.po_checks.specs.Checks.{IsPlural, HasSystemDependentText, HasOtherArguments, HasOtherCount, HasOtherNewlines}
 use Rattle.po_checks.specs.Checks.{IsFirstWithoutForm}
 use Rattle.po_checks.specs.Found.{FailsFrom}
-use Rattle.po_checks.specs.Kept.{key_of, kept, kept_header, header_line_of, NamesAcceptedCharset, HasHeaderRule}
+use Rattle.po_checks.specs.Kept.{key_of, kept_entries, kept_header, header_line_of, NamesAcceptedCharset, HasHeaderRule}
 use Rattle.po_checks.specs.Fails.{HasDistinctKeys, IsDuplicateAt, IsForeignAt, RuleRefuses, HeaderRefuses, Fails, rank}
 use Rattle.po_checks.specs.Fails.{IsFirst}
-use Rattle.po_header.specs.Rule.{HasRuleIn}
 use Rattle.po_checks.specs.declared.options.Options.{Options}
 use Rattle.po_checks.specs.declared.fault.LoadKind.{LoadKind}
 use Rattle.po_checks.specs.declared.fault.LoadKind.TheVariants.{TooLarge, NotUtf8, BadEscape, OpenString, BadWord}
@@ -72,8 +71,9 @@ rule_in_one (Some text) rule other p q = HasRule-one text rule other p q
 
 -- what the header refuses, its only rule refuses
 pub by_rule : (o : Options) (es : List po.Entry) (rule : Rule) (kind : LoadKind) (line : ℕ) → HasHeaderRule o es rule
-    → HeaderRefuses o es kind line → RuleRefuses rule (kept o es) (header_line_of o es) kind line
-by_rule o es rule kind line has (other, has', r) = subst (λ (x : Rule). RuleRefuses x (kept o es) (header_line_of o es)
+    → HeaderRefuses o es kind line → RuleRefuses rule (kept_entries o es) (header_line_of o es) kind line
+by_rule o es rule kind line has (other, has', r) = subst
+    (λ (x : Rule). RuleRefuses x (kept_entries o es) (header_line_of o es)
     kind line) (rule_in_one _ other rule has' has) r
 
 least_one : (nplurals : ℕ) (tree : _) (n m : ℕ) → IsFirstWithoutForm nplurals tree n
@@ -89,26 +89,22 @@ least_one nplurals tree n m p q = elim (cases_lt n m) [
 absent_one : (rule : Rule) (es : List po.Entry) (at line m : ℕ) → RuleRefuses rule es at NoRule line
     → RuleRefuses rule es at NoRule m → line ≡ m
 absent_one Absent es at line m p q = first_one IsPlural es line m p q
-absent_one Broken es at line m p q = absurd p
-absent_one (Given nplurals tree) es at line m p q = absurd p
+absent_one _ es at line m p q = absurd p
 
 broken_one : (rule : Rule) (es : List po.Entry) (at line m : ℕ) → RuleRefuses rule es at BadRule line
     → RuleRefuses rule es at BadRule m → line ≡ m
-broken_one Absent es at line m p q = absurd p
 broken_one Broken es at line m p q = p.1 ∙ sym q.1
-broken_one (Given nplurals tree) es at line m p q = absurd p
+broken_one _ es at line m p q = absurd p
 
 count_one : (rule : Rule) (es : List po.Entry) (at line m : ℕ) → RuleRefuses rule es at FormCount line
     → RuleRefuses rule es at FormCount m → line ≡ m
-count_one Absent es at line m p q = absurd p
-count_one Broken es at line m p q = absurd p
 count_one (Given nplurals tree) es at line m p q = first_one (HasOtherCount nplurals) es line m p q
+count_one _ es at line m p q = absurd p
 
 range_one : (rule : Rule) (es : List po.Entry) (at n k line m : ℕ) → RuleRefuses rule es at (PluralRange n) line
     → RuleRefuses rule es at (PluralRange k) m → (n ≡ k) × (line ≡ m)
-range_one Absent es at n k line m p q = absurd p
-range_one Broken es at n k line m p q = absurd p
 range_one (Given nplurals tree) es at n k line m p q = (least_one nplurals tree n k p.0 q.0, p.1 ∙ sym q.1)
+range_one _ es at n k line m p q = absurd p
 
 -- ---- one kind
 
@@ -129,45 +125,30 @@ kind_ranked k n =
     if k == 16 then FormatMismatch else if k == 17 then NewlineMismatch else Memory
 
 kind_again : (kind : LoadKind) → kind ≡ kind_ranked (rank kind) (number_in kind)
-kind_again TooLarge = refl
-kind_again NotUtf8 = refl
-kind_again BadEscape = refl
-kind_again OpenString = refl
-kind_again BadWord = refl
-kind_again BadText = refl
-kind_again BadOrder = refl
-kind_again BadIndex = refl
-kind_again Duplicate = refl
-kind_again Charset = refl
-kind_again SystemDependent = refl
-kind_again NoRule = refl
-kind_again BadRule = refl
-kind_again FormCount = refl
 kind_again (PluralRange n) = refl
-kind_again FormatMismatch = refl
-kind_again NewlineMismatch = refl
-kind_again Memory = refl
+kind_again _ = refl
 
 fails_one : (o : Options) (es : List po.Entry) (kind : LoadKind) (n line m : ℕ) → Fails o es kind line
     → Fails o es (kind_ranked (rank kind) n) m → (kind ≡ kind_ranked (rank kind) n) × (line ≡ m)
 fails_one o es Duplicate n line m f g = (refl, duplicate_one es line m f g)
 fails_one o es Charset n line m f g = (refl, foreign_one o es line m f g)
-fails_one o es SystemDependent n line m f g = (refl, first_one HasSystemDependentText (kept o es) line m f g)
+fails_one o es SystemDependent n line m f g = (refl, first_one HasSystemDependentText (kept_entries o es) line m f g)
 fails_one o es NoRule n line m (c, (rule, has, r)) (d, g) = (
   refl,
-  absent_one rule (kept o es) (header_line_of o es)
+  absent_one rule (kept_entries o es) (header_line_of o es)
       line m r (by_rule o es rule NoRule m has g),
 )
 fails_one o es BadRule n line m (c, (rule, has, r)) (d, g) =
-    (refl, broken_one rule (kept o es) (header_line_of o es) line m r (by_rule o es rule BadRule m has g))
+    (refl, broken_one rule (kept_entries o es) (header_line_of o es) line m r (by_rule o es rule BadRule m has g))
 fails_one o es FormCount n line m (c, (rule, has, r)) (d, g) =
-    (refl, count_one rule (kept o es) (header_line_of o es) line m r (by_rule o es rule FormCount m has g))
+    (refl, count_one rule (kept_entries o es) (header_line_of o es) line m r (by_rule o es rule FormCount m has g))
 fails_one o es (PluralRange k) n line m (c, (rule, has, r)) (d, g) =
-    let one = range_one rule (kept o es) (header_line_of o es) k n line m r (by_rule o es rule (PluralRange n) m has g)
+    let one = range_one rule (kept_entries o es) (header_line_of o es) k n line m r
+    (by_rule o es rule (PluralRange n) m has g)
     in
     (ap (λ i. PluralRange i) one.0, one.1)
-fails_one o es FormatMismatch n line m f g = (refl, first_one HasOtherArguments (kept o es) line m f.1 g.1)
-fails_one o es NewlineMismatch n line m f g = (refl, first_one HasOtherNewlines (kept o es) line m f.1 g.1)
+fails_one o es FormatMismatch n line m f g = (refl, first_one HasOtherArguments (kept_entries o es) line m f.1 g.1)
+fails_one o es NewlineMismatch n line m f g = (refl, first_one HasOtherNewlines (kept_entries o es) line m f.1 g.1)
 fails_one o es _ n line m f g = absurd f
 
 pub first_refusal_one : (o : Options) (es : List po.Entry) (kind other : LoadKind) (line m : ℕ)
@@ -191,41 +172,18 @@ first_refusal_one o es kind other line m p q = elim (cases_lt (rank kind) (rank 
 fails_below_nine : (o : Options) (es : List po.Entry) (kind : LoadKind) (line : ℕ) → rank kind < 9
     → Fails o es kind line → ⊥
 fails_below_nine o es Duplicate line lt f = omega (arith, lt)
-fails_below_nine o es Charset line lt f = omega (arith, lt)
-fails_below_nine o es SystemDependent line lt f = omega (arith, lt)
-fails_below_nine o es NoRule line lt f = omega (arith, lt)
-fails_below_nine o es BadRule line lt f = omega (arith, lt)
-fails_below_nine o es FormCount line lt f = omega (arith, lt)
-fails_below_nine o es (PluralRange n) line lt f = omega (arith, lt)
-fails_below_nine o es FormatMismatch line lt f = omega (arith, lt)
-fails_below_nine o es NewlineMismatch line lt f = omega (arith, lt)
-fails_below_nine o es _ line lt f = f
+fails_below_nine o es _ line lt f = first_of (omega (arith, lt), assumption f)
 
 fails_below_ten : (o : Options) (es : List po.Entry) (kind : LoadKind) (line : ℕ) → rank kind < 10
     → Fails o es kind line → IsDuplicateAt es line
 fails_below_ten o es Duplicate line lt f = f
-fails_below_ten o es Charset line lt f = absurd (omega (arith, lt))
-fails_below_ten o es SystemDependent line lt f = absurd (omega (arith, lt))
-fails_below_ten o es NoRule line lt f = absurd (omega (arith, lt))
-fails_below_ten o es BadRule line lt f = absurd (omega (arith, lt))
-fails_below_ten o es FormCount line lt f = absurd (omega (arith, lt))
-fails_below_ten o es (PluralRange n) line lt f = absurd (omega (arith, lt))
-fails_below_ten o es FormatMismatch line lt f = absurd (omega (arith, lt))
-fails_below_ten o es NewlineMismatch line lt f = absurd (omega (arith, lt))
-fails_below_ten o es _ line lt f = absurd f
+fails_below_ten o es _ line lt f = absurd (first_of (omega (arith, lt), assumption f))
 
 fails_below_eleven : (o : Options) (es : List po.Entry) (kind : LoadKind) (line : ℕ) → rank kind < 11
     → Fails o es kind line → IsDuplicateAt es line ⊎ IsForeignAt o es line
 fails_below_eleven o es Duplicate line lt f = inl f
 fails_below_eleven o es Charset line lt f = inr f
-fails_below_eleven o es SystemDependent line lt f = absurd (omega (arith, lt))
-fails_below_eleven o es NoRule line lt f = absurd (omega (arith, lt))
-fails_below_eleven o es BadRule line lt f = absurd (omega (arith, lt))
-fails_below_eleven o es FormCount line lt f = absurd (omega (arith, lt))
-fails_below_eleven o es (PluralRange n) line lt f = absurd (omega (arith, lt))
-fails_below_eleven o es FormatMismatch line lt f = absurd (omega (arith, lt))
-fails_below_eleven o es NewlineMismatch line lt f = absurd (omega (arith, lt))
-fails_below_eleven o es _ line lt f = absurd f
+fails_below_eleven o es _ line lt f = absurd (first_of (omega (arith, lt), assumption f))
 
 -- a duplicate comes first
 pub first_is_duplicate : (o : Options) (es : List po.Entry) (line : ℕ) → IsDuplicateAt es line

@@ -4,14 +4,14 @@ use Rattle.std.specs.Prelude.{nat_lt}
 use Rattle.std.specs.Option.{option_map_or}
 use Rattle.std.proofs.lemmas.Bool.{cases_lt}
 use Rattle.po_header.specs.Grammar.{Tree}
-use Rattle.po_header.specs.Repeats.{Repeats, folded}
+use Rattle.po_header.specs.Repeats.{Repeats, folded_number}
 use Rattle.po_checks.specs.Checks.{has_form}
 use Rattle.po_checks.specs.Findings.{FirstWithoutForm, HasAllValues}
 
 pub repeated : (tree : Tree) → Repeats tree → HasAllValues tree 200
 repeated tree again n le = elim (cases_lt n 200) [
   | inl lt ↦ (n, lt, refl)
-  | inr ge ↦ (folded n, omega arith, again.again n (omega (arith, ge)))
+  | inr ge ↦ (folded_number n, omega arith, again.again n (omega (arith, ge)))
 ]
 
 pub each : (tree : Tree) → HasAllValues tree 1001

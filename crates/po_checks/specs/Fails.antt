@@ -6,7 +6,7 @@ use Rattle.po_text.specs.Entries as po
 use Rattle.po_header.specs.Rule.{Rule, Given, Absent, Broken}
 use Rattle.po_checks.specs.Checks.{FirstAt, HasSystemDependentText, HasOtherArguments, IsPlural, HasOtherCount}
 use Rattle.po_checks.specs.Checks.{IsFirstWithoutForm, HasOtherNewlines}
-use Rattle.po_checks.specs.Kept.{key_of, kept, kept_header, header_line_of, HasHeaderRule, NamesAcceptedCharset}
+use Rattle.po_checks.specs.Kept.{key_of, kept_entries, kept_header, header_line_of, HasHeaderRule, NamesAcceptedCharset}
 use Rattle.po_checks.specs.declared.options.Options.{Options}
 use Rattle.po_checks.specs.declared.fault.LoadKind.{LoadKind}
 use Rattle.po_checks.specs.declared.fault.LoadKind.TheVariants.{TooLarge, NotUtf8, BadEscape, OpenString, BadWord}
@@ -46,21 +46,21 @@ RuleRefuses _ entries at _ line = ⊥
 -- the rule in the kept header refuses the kept entries
 abbrev pub HeaderRefuses : Options → List po.Entry → LoadKind → ℕ → Type 0
 HeaderRefuses options entries kind line = (rule : Rule) × HasHeaderRule options entries rule
-    × RuleRefuses rule (kept options entries) (header_line_of options entries) kind line
+    × RuleRefuses rule (kept_entries options entries) (header_line_of options entries) kind line
 
 -- the entries are refused with this kind at this line; the kinds from `NoRule` on apply only at the checked level
 abbrev pub Fails : Options → List po.Entry → LoadKind → ℕ → Type 0
 Fails options entries Duplicate line = IsDuplicateAt entries line
 Fails options entries Charset line = IsForeignAt options entries line
-Fails options entries SystemDependent line = FirstAt HasSystemDependentText (kept options entries) line
+Fails options entries SystemDependent line = FirstAt HasSystemDependentText (kept_entries options entries) line
 Fails options entries NoRule line = IsTrue options.checked × HeaderRefuses options entries NoRule line
 Fails options entries BadRule line = IsTrue options.checked × HeaderRefuses options entries BadRule line
 Fails options entries FormCount line = IsTrue options.checked × HeaderRefuses options entries FormCount line
 Fails options entries (PluralRange n) line = IsTrue options.checked × HeaderRefuses options entries (PluralRange n) line
 Fails options entries FormatMismatch line = IsTrue options.checked
-    × FirstAt HasOtherArguments (kept options entries) line
+    × FirstAt HasOtherArguments (kept_entries options entries) line
 Fails options entries NewlineMismatch line = IsTrue options.checked
-    × FirstAt HasOtherNewlines (kept options entries) line
+    × FirstAt HasOtherNewlines (kept_entries options entries) line
 Fails options entries _ line = ⊥
 
 -- the order in which refusals are reported

@@ -8,9 +8,8 @@ use Rattle.po_header.specs.TreeValue.{value}
 use Rattle.c_signature.specs.Agreement.{Agrees}
 use Rattle.c_signature.specs.Signature as signature
 use Rattle.c_signature.specs.declared.Strictness.{Strictness}
-use Rattle.po_checks.specs.Checks.{HasSystemDependentText, HasOtherArguments}
-use Rattle.po_checks.specs.Checks.{HasOtherNewlines, has_form, IsFirstWithoutForm, Differs, begins_with_newline}
-use Rattle.po_checks.specs.Checks.{ends_with_newline}
+use Rattle.po_checks.specs.Checks.{HasSystemDependentText, HasOtherArguments, HasOtherNewlines, has_form}
+use Rattle.po_checks.specs.Checks.{IsFirstWithoutForm, Differs, begins_with_newline, ends_with_newline}
 use Rattle.po_checks.specs.Kept.{header_line_of, HasHeaderRule}
 use Rattle.po_checks.specs.declared.findings.Findings.{Findings}
 use Rattle.po_checks.specs.declared.formats.Format.{Format}
@@ -18,8 +17,7 @@ use Rattle.po_checks.specs.declared.formats.Format.TheVariants.{Arguments, Inval
 use Rattle.po_checks.specs.declared.plurals.Plurals.{Plurals}
 use Rattle.po_checks.specs.declared.options.Options.{Options}
 use Rattle.po_checks.specs.declared.fault.LoadFault.{LoadFault}
-use Rattle.po_checks.specs.Found.{FailsFrom, FirstFault, FirstLine, HasFound, HasPlurals}
-use Rattle.po_checks.specs.Found.{line_for, line_of}
+use Rattle.po_checks.specs.Found.{FailsFrom, FirstFault, FirstLine, HasFound, HasPlurals, line_for, line_of}
 
 -- the line that was found before, or else this one if its entry fails
 abbrev pub first_or : Option ℕ → Bool → ℕ → Option ℕ

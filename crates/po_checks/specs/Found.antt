@@ -1,11 +1,10 @@
 -- What the checks have found among the kept entries read so far, and the first fault that follows from it.
-use Rattle.std.specs.Prelude.{◌≡◌, ℕ, ◌≤◌, ◌==◌, Bool, IsTrue, if◌then◌else◌, List, [], ◌∷◌}
-use Rattle.std.specs.Prelude.{◌++◌, Option, Some, None}
+use Rattle.std.specs.Prelude.{◌≡◌, ℕ, ◌≤◌, ◌==◌, Bool, IsTrue, if◌then◌else◌, List, [], ◌∷◌, ◌++◌, Option, Some, None}
 use Rattle.po_text.specs.Entries as po
 use Rattle.po_header.specs.Rule.{Rule}
 use Rattle.po_checks.specs.Checks.{NoneOf, FirstAt, HasSystemDependentText, HasOtherArguments, IsPlural, HasOtherCount}
 use Rattle.po_checks.specs.Checks.{HasOtherNewlines}
-use Rattle.po_checks.specs.Kept.{kept, header_line_of, HasHeaderRule}
+use Rattle.po_checks.specs.Kept.{kept_entries, header_line_of, HasHeaderRule}
 use Rattle.po_checks.specs.Fails.{rank, Fails, IsFirst}
 use Rattle.po_checks.specs.declared.findings.Findings.{Findings}
 use Rattle.po_checks.specs.declared.plurals.FirstPlural.{FirstPlural}
@@ -47,7 +46,7 @@ pub record AreFound (checked : Bool) (entries : List po.Entry) (findings : Findi
 
 -- the findings about the kept entries
 abbrev pub HasFound : Options → List po.Entry → Findings → Type 0
-HasFound options entries findings = AreFound options.checked (kept options entries) findings
+HasFound options entries findings = AreFound options.checked (kept_entries options entries) findings
 
 -- the entries are refused with this kind, whose rank is at least n
 abbrev pub FailsFrom : ℕ → Options → List po.Entry → LoadKind → ℕ → Type 0

@@ -40,12 +40,12 @@ is_kept options e = not (is_untranslated e) && (not e.fuzzy || (options.use_fuzz
 -- ---- all entries of the text
 
 -- the entries that are kept, in the order of the PO text
-abbrev pub kept : Options → List po.Entry → List po.Entry
-kept options entries = filter (is_kept options) entries
+abbrev pub kept_entries : Options → List po.Entry → List po.Entry
+kept_entries options entries = filter (is_kept options) entries
 
 -- the header, if it is kept
 abbrev pub kept_header : Options → List po.Entry → Option po.Entry
-kept_header options entries = find is_header (kept options entries)
+kept_header options entries = find is_header (kept_entries options entries)
 
 -- the line of the kept header, or 0 if there is none
 abbrev pub header_line_of : Options → List po.Entry → ℕ

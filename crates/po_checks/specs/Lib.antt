@@ -4,3 +4,4 @@ pub mod Fails
 pub mod Refusal
 pub mod Found
 pub mod Findings
+pub mod Headers

@@ -5,6 +5,7 @@
 mod fault;
 mod findings;
 mod formats;
+mod header;
 mod kept;
 mod newlines;
 mod options;
@@ -12,6 +13,7 @@ mod plurals;
 
 pub use fault::{LoadFault, LoadKind};
 pub use findings::Findings;
+pub use header::{Header, header_of};
 pub use kept::{is_header, is_kept, is_untranslated};
 pub use options::Options;
 pub use plurals::{FirstPlural, Plurals};

@@ -1,10 +1,9 @@
 -- Searches for a byte, compared with runs of bytes.
-use Rattle.std.proofs.Common.{◌≡◌, ℕ, ◌-◌, true, false, Bool, List, take, length}
-use Rattle.std.proofs.Common.{refl, sym, arith, ap, ◌∙◌, Some, None, Option}
+use Rattle.po_header.proofs.Kit.{◌≡◌, ℕ, ◌-◌, true, false, List, take, length, refl, sym, arith, ap, ◌∙◌, Some, None}
+use Rattle.po_header.proofs.Kit.{Option, prefix_len, take_while, take_all}
+use Rattle.std.proofs.Common.{Bool}
 use Rattle.std.specs.Option.{unwrap_or}
-use Rattle.std.specs.List.{prefix_len, take_while}
 use Rattle.std.specs.Prelude.{not, slice_range}
-use Rattle.std.proofs.lemmas.List.{take_all}
 use Rattle.std.proofs.lemmas.List.Sums.{prefix_len_is}
 use Rattle.memchr.specs.Find.{IsFirstByte}
 

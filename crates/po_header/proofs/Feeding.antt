@@ -1,92 +1,50 @@
 -- The parser's steps find the tree that the tokens derive.
-use Rattle.std.proofs.Common.{◌≡◌, ℕ, ◌<◌, ◌≤◌, List, [], ◌∷◌, ◌++◌, Option, Some, refl, sym, ap, ◌∙◌, arith}
-use Rattle.std.proofs.lemmas.Bool.{le-leb, lt-leb}
-use Rattle.po_header.specs.declared.token.Operator.{Operator}
-use Rattle.po_header.specs.declared.token.Operator.TheVariants.{Or, And, Equal, NotEqual, Less, Greater, AtMost}
-use Rattle.po_header.specs.declared.token.Operator.TheVariants.{AtLeast, Add, Subtract, Multiply, Divide, Remainder}
-use Rattle.po_header.specs.declared.token.Token.{Token}
+use Rattle.po_header.proofs.Kit.{◌≡◌, ℕ, ◌<◌, ◌≤◌, List, [], ◌∷◌, ◌++◌, Option, Some, refl, sym, ap, ◌∙◌, arith, le-leb}
+use Rattle.po_header.proofs.Kit.{lt-leb, Operator, Token, Tree, Derives, Waiting, BranchWaits, State, with_operand}
+use Rattle.po_header.proofs.Kit.{joined_operand, negated_operand, colon, close, step, steps, start, tree_at_end, finish}
+use Rattle.po_header.specs.declared.token.Operator.TheVariants.{Or}
 use Rattle.po_header.specs.declared.token.Token.TheVariants.{Close, Question, Colon, Sign}
-use Rattle.po_header.specs.Grammar.{Tree, Derivation, Name, Numeral, Bracketed, Negated, Joined}
-use Rattle.po_header.specs.Grammar.{Chosen, level, level_of, IsGrouped, tokens_of, derived_tree, Derives}
-use Rattle.po_header.specs.Stack.{Waiting, BracketWaits, BangWaits, LeftWaits, ConditionWaits, BranchWaits, State}
-use Rattle.po_header.specs.Stack.{wanting, having, joined, negated, colon, close, left_waits}
-use Rattle.po_header.specs.Stack.{condition_waits, step, steps, start, ended, finish}
+use Rattle.po_header.specs.Grammar.{Derivation, Name, Numeral, Bracketed, Negated, Joined}
+use Rattle.po_header.specs.Grammar.{Chosen, level, level_of, IsGrouped, tokens_of, derived_tree}
+use Rattle.po_header.specs.Stack.{BracketWaits, BangWaits, LeftWaits, ConditionWaits, without_operand, left_waits}
+use Rattle.po_header.specs.Stack.{condition_waits}
 
 -- ---- levels
 
 pub level_low : (op : Operator) → 2 ≤ level op
 level_low Or = omega arith
-level_low And = omega arith
-level_low Equal = omega arith
-level_low NotEqual = omega arith
-level_low Less = omega arith
-level_low Greater = omega arith
-level_low AtMost = omega arith
-level_low AtLeast = omega arith
-level_low Add = omega arith
-level_low Subtract = omega arith
-level_low Multiply = omega arith
-level_low Divide = omega arith
-level_low Remainder = omega arith
+level_low _ = omega arith
 
 pub level_high : (op : Operator) → level op ≤ 7
 level_high Or = omega arith
-level_high And = omega arith
-level_high Equal = omega arith
-level_high NotEqual = omega arith
-level_high Less = omega arith
-level_high Greater = omega arith
-level_high AtMost = omega arith
-level_high AtLeast = omega arith
-level_high Add = omega arith
-level_high Subtract = omega arith
-level_high Multiply = omega arith
-level_high Divide = omega arith
-level_high Remainder = omega arith
+level_high _ = omega arith
 
 pub level_some : (d : Derivation) → 1 ≤ level_of d
-level_some Name = omega arith
-level_some (Numeral v) = omega arith
-level_some (Bracketed d) = omega arith
-level_some (Negated d) = omega arith
 level_some (Joined op a b) = omega (arith, level_low op)
-level_some (Chosen c a b) = omega arith
+level_some _ = omega arith
 
 -- ---- what waits
 
 -- an operand of this level may follow what waits
 abbrev pub Fits : List Waiting → ℕ → Type 0
-Fits [] k = Unit {0}
-Fits (BracketWaits ∷ ws) k = Unit {0}
 Fits (BangWaits ∷ ws) k = ⊥
 Fits (LeftWaits op left ∷ ws) k = level op < k
-Fits (ConditionWaits c ∷ ws) k = Unit {0}
-Fits (BranchWaits c a ∷ ws) k = Unit {0}
+Fits _ k = Unit {0}
 
 pub Fits-le : (ws : List Waiting) (j k : ℕ) → j ≤ k → Fits ws j → Fits ws k
-Fits-le [] j k le h = tt
-Fits-le (BracketWaits ∷ ws) j k le h = tt
 Fits-le (BangWaits ∷ ws) j k le h = h
 Fits-le (LeftWaits op left ∷ ws) j k le h = omega arith
-Fits-le (ConditionWaits c ∷ ws) j k le h = tt
-Fits-le (BranchWaits c a ∷ ws) j k le h = tt
+Fits-le _ j k le h = tt
 
 -- what waits on looser levels keeps waiting
-joined-Fits : (k : ℕ) (ws : List Waiting) (t : Tree) → 2 ≤ k → Fits ws k → joined k ws t ≡ (ws, t)
-joined-Fits k [] t some h = refl
-joined-Fits k (BracketWaits ∷ ws) t some h = refl
-joined-Fits k (BangWaits ∷ ws) t some h = refl
+joined-Fits : (k : ℕ) (ws : List Waiting) (t : Tree) → 2 ≤ k → Fits ws k → joined_operand k ws t ≡ (ws, t)
 joined-Fits k (LeftWaits op left ∷ ws) t some h = rw (lt-leb k (level op) h) refl
-joined-Fits k (ConditionWaits c ∷ ws) t some h = refl
 joined-Fits k (BranchWaits c a ∷ ws) t some h = let lt : 1 < k = omega arith in rw (lt-leb k 1 lt) refl
+joined-Fits k _ t some h = refl
 
-negated-Fits : (k : ℕ) (ws : List Waiting) (t : Tree) → Fits ws k → negated ws t ≡ (ws, t)
-negated-Fits k [] t h = refl
-negated-Fits k (BracketWaits ∷ ws) t h = refl
+negated-Fits : (k : ℕ) (ws : List Waiting) (t : Tree) → Fits ws k → negated_operand ws t ≡ (ws, t)
 negated-Fits k (BangWaits ∷ ws) t h = absurd h
-negated-Fits k (LeftWaits op left ∷ ws) t h = refl
-negated-Fits k (ConditionWaits c ∷ ws) t h = refl
-negated-Fits k (BranchWaits c a ∷ ws) t h = refl
+negated-Fits k _ t h = refl
 
 pub steps-append : (a b : List Token) (s : Option State) → steps s (a ++ b) ≡ steps (steps s a) b
 steps-append [] b s = refl
@@ -98,30 +56,31 @@ steps-append (t ∷ a) b s = steps-append a b (step s t)
 pub record Reads (d : Derivation) (ws : List Waiting) : Type 0 where
   pub waiting : List Waiting
   pub operand : Tree
-  pub after : steps (wanting ws) (tokens_of d) ≡ having (waiting, operand)
-  pub joins : (k : ℕ) → k ≤ level_of d → joined k waiting operand ≡ joined k ws (derived_tree d)
+  pub after : steps (without_operand ws) (tokens_of d) ≡ with_operand (waiting, operand)
+  pub joins : (k : ℕ) → k ≤ level_of d → joined_operand k waiting operand ≡ joined_operand k ws (derived_tree d)
 
 pub record Feeds (d : Derivation) : Type 0 where
-  pub tight : 8 ≤ level_of d → (ws : List Waiting) → steps (wanting ws) (tokens_of d)
-      ≡ having (negated ws (derived_tree d))
+  pub tight : 8 ≤ level_of d → (ws : List Waiting) → steps (without_operand ws) (tokens_of d)
+      ≡ with_operand (negated_operand ws (derived_tree d))
   pub all : (ws : List Waiting) → Fits ws (level_of d) → Reads d ws
 
-tight_feeds : (d : Derivation) → ((ws : List Waiting) → steps (wanting ws) (tokens_of d)
-    ≡ having (negated ws (derived_tree d))) → Feeds d
+tight_feeds : (d : Derivation) → ((ws : List Waiting) → steps (without_operand ws) (tokens_of d)
+    ≡ with_operand (negated_operand ws (derived_tree d))) → Feeds d
 tight_feeds d h = record {
   tight = λ high. h;
   all = λ ws fits. record {
     waiting = ws;
     operand = derived_tree d;
-    after = h ws ∙ ap having (negated-Fits (level_of d) ws (derived_tree d) fits);
+    after = h ws ∙ ap with_operand (negated-Fits (level_of d) ws (derived_tree d) fits);
     joins = λ k le. refl;
   };
 }
 
 -- the first of two derivations, followed by more tokens
 after_first : (d : Derivation) (ws : List Waiting) (more : List Token) → (r : Reads d ws)
-    → steps (wanting ws) (tokens_of d ++ more) ≡ steps (having (r.waiting, r.operand)) more
-after_first d ws more r = steps-append (tokens_of d) more (wanting ws) ∙ ap (λ (s : Option State). steps s more) r.after
+    → steps (without_operand ws) (tokens_of d ++ more) ≡ steps (with_operand (r.waiting, r.operand)) more
+after_first d ws more r = steps-append (tokens_of d) more (without_operand ws)
+    ∙ ap (λ (s : Option State). steps s more) r.after
 
 bracketed_feeds : (d : Derivation) → Feeds d → Feeds (Bracketed d)
 bracketed_feeds d h = tight_feeds (Bracketed d) (λ ws.
@@ -182,7 +141,7 @@ pub finds_tree : (tokens : List Token) (tree : Tree) → Derives tokens tree →
 finds_tree tokens tree h =
     let r = (feeds h.derivation h.grouped).all [] tt in
     ap (λ (ts : List Token). finish (steps start ts)) h.tokens_are ∙ ap finish r.after
-    ∙ ap ended (r.joins 1 (level_some h.derivation)) ∙ ap Some (sym h.tree_is)
+    ∙ ap tree_at_end (r.joins 1 (level_some h.derivation)) ∙ ap Some (sym h.tree_is)
 
 -- tokens derive at most one tree
 pub Derives-one : (tokens : List Token) (tree other : Tree) → Derives tokens tree → Derives tokens other → tree ≡ other

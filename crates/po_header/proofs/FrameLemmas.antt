@@ -1,19 +1,15 @@
 -- The code's frames, compared with what waits.
-use Rattle.std.proofs.Common.{◌≡◌, ℕ, suc, ◌-◌, take, arith, true, false, List, [], ◌∷◌, ◌++◌, Some, None, refl, sym}
-use Rattle.std.proofs.Common.{take-suc, ap, ◌∙◌}
-use Rattle.std.specs.Prelude.{◌==◌, length}
+use Rattle.po_header.proofs.Kit.{◌≡◌, ℕ, suc, ◌-◌, take, arith, true, false, List, [], ◌∷◌, ◌++◌, Some, None, refl, sym}
+use Rattle.po_header.proofs.Kit.{ap, ◌∙◌, ◌==◌, ne_eqb, take_all, Node, node_tree, Tree, Negation, stack_of, Waiting}
+use Rattle.po_header.proofs.Kit.{BranchWaits, with_operand, colon, close, tree_at_end, joined_operand, negated_operand}
+use Rattle.std.proofs.Common.{take-suc}
+use Rattle.std.specs.Prelude.{length}
 use Rattle.std.specs.List.{slice_get}
-use Rattle.std.proofs.lemmas.Bool.{ne_eqb}
-use Rattle.std.proofs.lemmas.List.{take_all}
 use Rattle.std.proofs.lemmas.Option.{slice_get_within, slice_get-get_or, get_or_from_slice_get}
 use Rattle.po_header.specs.declared.parse.Frame.{Frame}
-use Rattle.po_header.specs.declared.parse.Frame.TheVariants.{Bracket, Bang, Left, Condition, Branch}
-use Rattle.po_header.specs.declared.tree.Node.{Node}
-use Rattle.po_header.specs.Nodes.{node_tree}
-use Rattle.po_header.specs.Grammar.{Tree, Negation}
-use Rattle.po_header.specs.Frames.{frame_waits, stack_on, stack_of, state_of}
-use Rattle.po_header.specs.Stack.{Waiting, BranchWaits, wanting, having, colon, close}
-use Rattle.po_header.specs.Stack.{ended, joined, joins_on, join_tree, negated, is_bang_waits}
+use Rattle.po_header.specs.declared.parse.Frame.TheVariants.{Bracket, Condition}
+use Rattle.po_header.specs.Frames.{frame_waits, stack_on, state_of}
+use Rattle.po_header.specs.Stack.{without_operand, joins_on, join_tree, is_bang_waits}
 
 stack_on-push : (frames : List Frame) (ws : List Waiting) (frame : Frame) → stack_on ws (frames ++ frame ∷ [])
     ≡ frame_waits frame ∷ stack_on ws frames
@@ -25,12 +21,12 @@ pub stack_of-push : (all frames : List Frame) (frame : Frame) → all ≡ frames
 stack_of-push all frames frame e = ap stack_of e ∙ stack_on-push frames [] frame
 
 pub joined-frame : (k : ℕ) (all frames : List Frame) (frame : Frame) (t u : Tree) → all ≡ frames ++ frame ∷ []
-    → joins_on k (frame_waits frame) ≡ true → u ≡ join_tree (frame_waits frame) t → joined k (stack_of all) t
-    ≡ joined k (stack_of frames) u
+    → joins_on k (frame_waits frame) ≡ true → u ≡ join_tree (frame_waits frame) t → joined_operand k (stack_of all) t
+    ≡ joined_operand k (stack_of frames) u
 joined-frame k all frames frame t u e joins is = rw (stack_of-push all frames frame e, joins, is) refl
 
 pub joined-stays : (k : ℕ) (all frames new : List Frame) (frame : Frame) (t : Tree) → all ≡ frames ++ frame ∷ []
-    → joins_on k (frame_waits frame) ≡ false → new ≡ frames ++ frame ∷ [] → joined k (stack_of all) t
+    → joins_on k (frame_waits frame) ≡ false → new ≡ frames ++ frame ∷ [] → joined_operand k (stack_of all) t
     ≡ (stack_of new, t)
 joined-stays k all frames new frame t e stays f = rw (
   stack_of-push all frames frame e,
@@ -48,7 +44,7 @@ none_left all frames n e rest none =
     (e ∙ ap (λ (fs : List Frame). fs ++ []) f, f)
 
 pub joined-nothing : (k : ℕ) (all frames : List Frame) (n : ℕ) (t : Tree) → all ≡ frames ++ [] → frames
-    ≡ take (n - 1) all → n ≡ 0 → joined k (stack_of all) t ≡ (stack_of frames, t)
+    ≡ take (n - 1) all → n ≡ 0 → joined_operand k (stack_of all) t ≡ (stack_of frames, t)
 joined-nothing k all frames n t e rest none = let h = none_left all frames n e rest none in rw (h.0, h.1) refl
 
 -- ---- the last frame
@@ -72,43 +68,39 @@ last_off : (all frames : List Frame) (n : ℕ) (frame : Frame) → Some frame �
     ≡ length all → frames ≡ take (n - 1) all → all ≡ frames ++ frame ∷ []
 last_off all frames n frame last len rest = rw (rest, len) (last_split all frame (sym last))
 
-pub negated-nothing : (all : List Frame) (t : Tree) → None ≡ slice_get all (length all - 1) → negated (stack_of all) t
+pub negated-nothing : (all : List Frame) (t : Tree) → None ≡ slice_get all (length all - 1)
+    → negated_operand (stack_of all) t
     ≡ (stack_of all, t)
 negated-nothing all t none = rw (no_last all (sym none)) refl
 
 pub negated-frame : (all frames : List Frame) (n : ℕ) (frame : Frame) (t u : Tree)
     → Some frame ≡ slice_get all (length all - 1) → n ≡ length all → frames ≡ take (n - 1) all
-    → is_bang_waits (frame_waits frame) ≡ true → u ≡ Negation t → negated (stack_of all) t ≡ negated (stack_of frames) u
+    → is_bang_waits (frame_waits frame) ≡ true → u ≡ Negation t → negated_operand (stack_of all) t
+    ≡ negated_operand (stack_of frames) u
 negated-frame all frames n frame t u last len rest bang is =
     rw (stack_of-push all frames frame (last_off all frames n frame last len rest), bang, is) refl
 
 pub negated-stays : (all : List Frame) (frame : Frame) (t : Tree) → Some frame ≡ slice_get all (length all - 1)
-    → is_bang_waits (frame_waits frame) ≡ false → negated (stack_of all) t ≡ (stack_of all, t)
+    → is_bang_waits (frame_waits frame) ≡ false → negated_operand (stack_of all) t ≡ (stack_of all, t)
 negated-stays all frame t last stays = rw (stack_of-push all _ frame (last_split all frame (sym last)), stays) refl
 
 -- ---- steps
 
 pub wanting-push : (old new : List Frame) (frame : Frame) → new ≡ old ++ frame ∷ []
-    → wanting (frame_waits frame ∷ stack_of old) ≡ Some (state_of new None)
+    → without_operand (frame_waits frame ∷ stack_of old) ≡ Some (state_of new None)
 wanting-push old new frame e = rw (stack_of-push new old frame e) refl
 
 -- only a condition waits for a colon
 pub colon-other : (all frames : List Frame) (frame : Frame) (t : Tree) → all ≡ frames ++ frame ∷ []
     → ((c : Node) → frame ≡ Condition c → ⊥) → colon (stack_of all, t) ≡ None
-colon-other all frames Bracket t e other = rw (stack_of-push all frames Bracket e) refl
-colon-other all frames Bang t e other = rw (stack_of-push all frames Bang e) refl
-colon-other all frames (Left op left) t e other = rw (stack_of-push all frames (Left op left) e) refl
 colon-other all frames (Condition c) t e other = absurd (other c refl)
-colon-other all frames (Branch c a) t e other = rw (stack_of-push all frames (Branch c a) e) refl
+colon-other all frames frame t e other = rw (stack_of-push all frames frame e) refl
 
 -- only a bracket waits for a closing bracket
 close_other : (ws : List Waiting) (frame : Frame) (t : Tree) → (frame ≡ Bracket → ⊥)
     → close (frame_waits frame ∷ ws, t) ≡ None
 close_other ws Bracket t other = absurd (other refl)
-close_other ws Bang t other = refl
-close_other ws (Left op left) t other = refl
-close_other ws (Condition c) t other = refl
-close_other ws (Branch c a) t other = refl
+close_other ws _ t other = refl
 
 pub close-other : (all : List Frame) (frame : Frame) (t : Tree) → Some frame ≡ slice_get all (length all - 1)
     → (frame ≡ Bracket → ⊥) → close (stack_of all, t) ≡ None
@@ -124,26 +116,29 @@ pub colon-nothing : (all frames : List Frame) (n : ℕ) (t : Tree) → all ≡ f
 colon-nothing all frames n t e rest none = let h = none_left all frames n e rest none in rw h.0 refl
 
 pub colon-condition : (all frames : List Frame) (c : Node) (t : Tree) → all ≡ frames ++ Condition c ∷ []
-    → colon (stack_of all, t) ≡ wanting (BranchWaits (node_tree c) t ∷ stack_of frames)
+    → colon (stack_of all, t) ≡ without_operand (BranchWaits (node_tree c) t ∷ stack_of frames)
 colon-condition all frames c t e = rw (stack_of-push all frames (Condition c) e) refl
 
 pub close-bracket : (all frames : List Frame) (n : ℕ) (frame : Frame) (t : Tree)
     → Some frame ≡ slice_get all (length all - 1) → frame ≡ Bracket → n ≡ length all → frames ≡ take (n - 1) all
-    → close (stack_of all, t) ≡ having (negated (stack_of frames) t)
+    → close (stack_of all, t) ≡ with_operand (negated_operand (stack_of frames) t)
 close-bracket all frames n frame t last is len rest =
     rw (stack_of-push all frames frame (last_off all frames n frame last len rest), is) refl
 
-ended-on : (frames : List Frame) (w : Waiting) (ws : List Waiting) (t : Tree) → ended (stack_on (w ∷ ws) frames, t)
+ended-on : (frames : List Frame) (w : Waiting) (ws : List Waiting) (t : Tree)
+    → tree_at_end (stack_on (w ∷ ws) frames, t)
     ≡ None
 ended-on [] w ws t = refl
 ended-on (f ∷ frames) w ws t = ended-on frames (frame_waits f) (w ∷ ws) t
 
 -- the operand is the whole expression if nothing waits
-pub ended-none : (frames : List Frame) (t : Tree) → true ≡ (length frames == 0) → ended (stack_of frames, t) ≡ Some t
+pub ended-none : (frames : List Frame) (t : Tree) → true ≡ (length frames == 0) → tree_at_end (stack_of frames, t)
+    ≡ Some t
 ended-none [] t e = refl
 ended-none (f ∷ frames) t e = let no = ne_eqb (length (f ∷ frames)) 0 (λ h. omega arith) in absurd (cc (e, no))
 
 -- and only then
-pub ended-some : (frames : List Frame) (t : Tree) → false ≡ (length frames == 0) → ended (stack_of frames, t) ≡ None
+pub ended-some : (frames : List Frame) (t : Tree) → false ≡ (length frames == 0) → tree_at_end (stack_of frames, t)
+    ≡ None
 ended-some [] t e = absurd (cc e)
 ended-some (f ∷ frames) t e = ended-on frames (frame_waits f) [] t

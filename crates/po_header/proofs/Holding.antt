@@ -10,8 +10,8 @@ use Rattle.po_header.specs.Grammar.{Tree, Variable, Constant, Negation, Binary, 
 use Rattle.po_header.specs.Grammar.{Name, Numeral, Bracketed, Negated, Joined, Chosen, level}
 use Rattle.po_header.specs.Grammar.{level_of, IsGrouped, tokens_of, derived_tree, Derives}
 use Rattle.po_header.specs.Stack.{Waiting, BracketWaits, BangWaits, LeftWaits, ConditionWaits, BranchWaits, State}
-use Rattle.po_header.specs.Stack.{joined, negated, colon, close, begin, go_on, step}
-use Rattle.po_header.specs.Stack.{step_at, steps, start, ended, finish_at, finish}
+use Rattle.po_header.specs.Stack.{joined_operand, negated_operand, colon, close, begin, go_on, step}
+use Rattle.po_header.specs.Stack.{step_at, steps, start, tree_at_end, finish_at, finish}
 use Rattle.po_header.proofs.Feeding.{Fits, Fits-le, level_low, level_high}
 
 -- a derivation of a tree, as the position of its parts allows
@@ -129,7 +129,8 @@ joins_branch k c a ws t ts le o =
           o.tokens_are h.7;
     }
 
-pub joins : (k : ℕ) (ws : List Waiting) (t : Tree) (ts : List Token) → Operand k ws t ts → JoinedTo k (joined k ws t) ts
+pub joins : (k : ℕ) (ws : List Waiting) (t : Tree) (ts : List Token) → Operand k ws t ts
+    → JoinedTo k (joined_operand k ws t) ts
 joins k [] t ts o = stays k [] t ts o tt
 joins k (BracketWaits ∷ ws) t ts o = stays k (BracketWaits ∷ ws) t ts o tt
 joins k (BangWaits ∷ ws) t ts o = absurd o.fits
@@ -158,7 +159,7 @@ tight_operand ws t ts before d fits h p e = record {
 }
 
 pub negates : (ws : List Waiting) (t : Tree) (ts before : List Token) (d : Derivation) → Holds ws before → Part t 8 d
-    → ts ≡ before ++ tokens_of d → Operand 8 (negated ws t).0 (negated ws t).1 ts
+    → ts ≡ before ++ tokens_of d → Operand 8 (negated_operand ws t).0 (negated_operand ws t).1 ts
 negates [] t ts before d h p e = tight_operand [] t ts before d tt h p e
 negates (BracketWaits ∷ ws) t ts before d h p e = tight_operand (BracketWaits ∷ ws) t ts before d tt h p e
 negates (BangWaits ∷ ws) t ts before d h p e =
@@ -192,18 +193,11 @@ begins ws ts Count h = negates ws Variable (ts ++ (Count ∷ [])) ts Name h
 begins ws ts (Number v) h = negates ws (Constant v) (ts ++ (Number v ∷ [])) ts (Numeral v) h
     (record { grouped = tt; high = omega arith; tree_is = refl }) refl
 begins ws ts Open h = (ts, h, refl)
-begins ws ts Close h = tt
-begins ws ts Question h = tt
-begins ws ts Colon h = tt
 begins ws ts Bang h = (ts, h, refl)
-begins ws ts (Sign op) h = tt
+begins ws ts _ h = tt
 
 colons : (ws : List Waiting) (t : Tree) (ts : List Token) → Operand 1 ws t ts
     → IsRead (colon (ws, t)) (ts ++ (Colon ∷ []))
-colons [] t ts o = tt
-colons (BracketWaits ∷ ws) t ts o = tt
-colons (BangWaits ∷ ws) t ts o = tt
-colons (LeftWaits op left ∷ ws) t ts o = tt
 colons (ConditionWaits c ∷ ws) t ts o =
     let h = o.holds in (
       h.0,
@@ -216,47 +210,36 @@ colons (ConditionWaits c ∷ ws) t ts o =
       ends_with (ts ++ (Colon ∷ [])) o.before h.0 (tokens_of h.1) (tokens_of o.derivation ++ (Colon ∷ [])) Question
           (adds_token ts o.before (tokens_of o.derivation) Colon o.tokens_are) h.5,
     )
-colons (BranchWaits c a ∷ ws) t ts o = tt
+colons _ t ts o = tt
 
 closes : (ws : List Waiting) (t : Tree) (ts : List Token) → Operand 1 ws t ts
     → IsRead (close (ws, t)) (ts ++ (Close ∷ []))
-closes [] t ts o = tt
 closes (BracketWaits ∷ ws) t ts o =
     let h = o.holds in
     negates ws t (ts ++ (Close ∷ [])) h.0 (Bracketed o.derivation) h.1
     (record { grouped = o.part.grouped; high = omega arith; tree_is = o.part.tree_is })
     (opens_with (ts ++ (Close ∷ [])) o.before h.0 (tokens_of o.derivation ++ (Close ∷ [])) Open
     (adds_token ts o.before (tokens_of o.derivation) Close o.tokens_are) h.2)
-closes (BangWaits ∷ ws) t ts o = tt
-closes (LeftWaits op left ∷ ws) t ts o = tt
-closes (ConditionWaits c ∷ ws) t ts o = tt
-closes (BranchWaits c a ∷ ws) t ts o = tt
+closes _ t ts o = tt
 
 -- where an operand of level 2 may come, so may one of level 1
 Fits-loose : (ws : List Waiting) → Fits ws 2 → Fits ws 1
-Fits-loose [] h = tt
-Fits-loose (BracketWaits ∷ ws) h = tt
 Fits-loose (BangWaits ∷ ws) h = h
 Fits-loose (LeftWaits op left ∷ ws) h = absurd (omega (arith, level_low op))
-Fits-loose (ConditionWaits c ∷ ws) h = tt
-Fits-loose (BranchWaits c a ∷ ws) h = tt
+Fits-loose _ h = tt
 
 goes_on : (ws : List Waiting) (t : Tree) (ts : List Token) (token : Token) → Operand 8 ws t ts
     → IsRead (go_on ws t token) (ts ++ (token ∷ []))
-goes_on ws t ts Count o = tt
-goes_on ws t ts (Number v) o = tt
-goes_on ws t ts Open o = tt
-goes_on ws t ts Bang o = tt
-goes_on ws t ts Close o = closes (joined 1 ws t).0 (joined 1 ws t).1 ts
+goes_on ws t ts Close o = closes (joined_operand 1 ws t).0 (joined_operand 1 ws t).1 ts
     (joins 1 ws t ts (Operand-le 1 8 ws t ts (omega arith) o)).operand
-goes_on ws t ts Colon o = colons (joined 1 ws t).0 (joined 1 ws t).1 ts
+goes_on ws t ts Colon o = colons (joined_operand 1 ws t).0 (joined_operand 1 ws t).1 ts
     (joins 1 ws t ts (Operand-le 1 8 ws t ts (omega arith) o)).operand
 goes_on ws t ts Question o =
     let j = joins 2 ws t ts (Operand-le 2 8 ws t ts (omega arith) o) in (
       j.operand.before,
       j.operand.derivation,
       j.operand.holds,
-      Fits-loose (joined 2 ws t).0 j.stops,
+      Fits-loose (joined_operand 2 ws t).0 j.stops,
       j.operand.part,
       adds_token ts j.operand.before (tokens_of j.operand.derivation) Question j.operand.tokens_are,
     )
@@ -267,9 +250,9 @@ goes_on ws t ts (Sign op) o =
       j.operand.holds,
       j.stops,
       j.operand.part,
-      adds_token ts j.operand.before
-          (tokens_of j.operand.derivation) (Sign op) j.operand.tokens_are,
+      adds_token ts j.operand.before (tokens_of j.operand.derivation) (Sign op) j.operand.tokens_are,
     )
+goes_on ws t ts _ o = tt
 
 steps_at : (ws : List Waiting) (o : Option Tree) (ts : List Token) (token : Token) → IsReadAt ws o ts
     → IsRead (step_at ws o token) (ts ++ (token ∷ []))
@@ -286,7 +269,7 @@ steps_read [] ts s h = rw (append-nil ts) h
 steps_read (token ∷ more) ts s h = rw (← append_assoc ts (token ∷ []) more)
     (steps_read more (ts ++ (token ∷ [])) (step s token) (step_reads s ts token h))
 
-ends : (ws : List Waiting) (t tree : Tree) (ts : List Token) → Operand 1 ws t ts → ended (ws, t) ≡ Some tree
+ends : (ws : List Waiting) (t tree : Tree) (ts : List Token) → Operand 1 ws t ts → tree_at_end (ws, t) ≡ Some tree
     → Derives ts tree
 ends [] t tree ts o e = record {
   derivation = o.derivation;
@@ -299,7 +282,7 @@ ends (w ∷ ws) t tree ts o e = absurd (cc e)
 finishes_at : (ws : List Waiting) (o : Option Tree) (ts : List Token) (tree : Tree) → IsReadAt ws o ts → finish_at ws o
     ≡ Some tree → Derives ts tree
 finishes_at ws None ts tree h e = absurd (cc e)
-finishes_at ws (Some t) ts tree h e = ends (joined 1 ws t).0 (joined 1 ws t).1 tree ts
+finishes_at ws (Some t) ts tree h e = ends (joined_operand 1 ws t).0 (joined_operand 1 ws t).1 tree ts
     (joins 1 ws t ts (Operand-le 1 8 ws t ts (omega arith) h)).operand e
 
 finishes : (s : Option State) (ts : List Token) (tree : Tree) → IsRead s ts → finish s ≡ Some tree → Derives ts tree

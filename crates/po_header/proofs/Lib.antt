@@ -1,3 +1,4 @@
+pub mod Kit
 pub mod TokenLemmas
 pub mod Feeding
 pub mod Holding

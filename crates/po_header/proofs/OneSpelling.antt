@@ -1,19 +1,15 @@
 -- A text spells at most one list of tokens.
-use Rattle.std.proofs.Common.{◌≡◌, ◌≢◌, ℕ, true, false, List, [], ◌∷◌, ◌++◌, Option}
-use Rattle.std.proofs.Common.{Some, None, refl, sym, ap, ◌∙◌, subst, arith, inl, inr}
+use Rattle.po_header.proofs.Kit.{◌≡◌, ◌≢◌, ℕ, true, false, List, [], ◌∷◌, ◌++◌, Option, Some, None, refl, sym, ap, ◌∙◌}
+use Rattle.po_header.proofs.Kit.{subst, arith, inl, inr, take_while, is_ascii_digit, cases_Bool, Token, Begins}
+use Rattle.po_header.proofs.Kit.{is_blank, IsStray}
 use Rattle.std.specs.Prelude.{if◌then◌else◌}
-use Rattle.std.specs.List.{take_while}
 use Rattle.std.specs.Option.{is_some}
-use Rattle.std.specs.Char.{is_ascii_digit}
-use Rattle.std.proofs.lemmas.Bool.{cases_Bool}
 use Rattle.std.proofs.lemmas.List.{append_cancel_left, append-nil}
 use Rattle.std.proofs.lemmas.List.Elements.{filter_map-append}
 use Rattle.std.proofs.lemmas.List.Sums.{take_while-cons}
-use Rattle.po_header.specs.declared.token.Token.{Token}
 use Rattle.byte_text.specs.Chain.{Chain}
 use Rattle.po_header.specs.Tokens.{Piece, Blank, Digits, Short, Long, PieceAt, piece_token}
-use Rattle.po_header.specs.Tokens.{tokens_of_pieces, Begins, Spells, is_blank, short_symbol, long_symbol, long_at}
-use Rattle.po_header.specs.ExprParsing.{IsStray}
+use Rattle.po_header.specs.Tokens.{tokens_of_pieces, Spells, short_symbol, long_symbol, long_at}
 use Rattle.po_header.proofs.TokenLemmas.{nothing_stray, blank_is, digit_no_blank, digit_no_symbol, digit_no_long}
 
 -- ---- which piece is at the front

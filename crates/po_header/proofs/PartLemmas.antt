@@ -1,14 +1,13 @@
 -- Lists of parts, and the trees that they stand for.
-use Rattle.std.proofs.Common.{◌≡◌, ℕ, ◌+◌, ◌<◌, ◌≤◌, List, [], ◌∷◌, ◌++◌, take, drop, length}
-use Rattle.std.proofs.Common.{get_or, refl, sym, ap, ◌∙◌, arith, length-append, append_assoc, Result, Ok, Err}
-use Rattle.std.specs.Prelude.{IfOk}
-use Rattle.std.proofs.lemmas.List.{get_or_append_left, take-append-drop, drop_more, length-take, get_or_past}
+use Rattle.po_header.proofs.Kit.{◌≡◌, ℕ, ◌+◌, ◌<◌, ◌≤◌, List, [], ◌∷◌, ◌++◌, take, drop, length, get_or, refl, sym, ap}
+use Rattle.po_header.proofs.Kit.{◌∙◌, arith, length-append, append_assoc, Result, Ok, Err, IfOk, take-append-drop}
+use Rattle.po_header.proofs.Kit.{length-take, Operator, Tree, Negation}
+use Rattle.std.proofs.lemmas.List.{get_or_append_left, drop_more, get_or_past}
 use Rattle.std.proofs.Math.Seq.{get_or-append_seam}
 use Rattle.po_header.specs.declared.parts.Part.{Part}
 use Rattle.po_header.specs.declared.parts.Part.TheVariants.{Negate, Combine, Choose}
-use Rattle.po_header.specs.declared.token.Operator.{Operator}
-use Rattle.po_header.specs.Grammar.{Tree, Variable, Negation, Binary, Choice}
-use Rattle.po_header.specs.ExprParts.{Builds, built, part_tree, tree_at, trees_from, trees_of}
+use Rattle.po_header.specs.Grammar.{Variable, Binary, Choice}
+use Rattle.po_header.specs.ExprParts.{Builds, tree_of_part, part_tree, tree_at, trees_from, trees_of}
 
 -- ---- the trees of parts
 
@@ -38,13 +37,13 @@ length-trees_of : (parts : List Part) → length (trees_of parts) ≡ length par
 length-trees_of parts = omega (arith, length-trees_from parts [])
 
 -- appending parts leaves the earlier ones unchanged
-built-append : (old more : List Part) (k : ℕ) → k < length old → built (old ++ more) k ≡ built old k
+built-append : (old more : List Part) (k : ℕ) → k < length old → tree_of_part (old ++ more) k ≡ tree_of_part old k
 built-append old more k lt =
     ap (λ (ts : List Tree). tree_at ts k) (trees_from-append old more [])
     ∙ trees_from-keeps more (trees_of old) k (omega (arith, length-trees_of old))
 
 -- the part that was appended last
-built-last : (old : List Part) (p : Part) → built (old ++ (p ∷ [])) (length old) ≡ part_tree (trees_of old) p
+built-last : (old : List Part) (p : Part) → tree_of_part (old ++ (p ∷ [])) (length old) ≡ part_tree (trees_of old) p
 built-last old p =
     ap (λ (ts : List Tree). tree_at ts (length old)) (trees_from-append old (p ∷ []) [])
     ∙ ap (λ (k : ℕ). tree_at (trees_of old ++ (part_tree (trees_of old) p ∷ [])) k) (sym (length-trees_of old))
@@ -58,18 +57,19 @@ cut_part parts at p lt e =
     (drop_more parts at p lt ∙ ap (λ (x : Part). x ∷ drop (at + 1) parts) e)
     ∙ sym (append_assoc (take at parts) (p ∷ []) (drop (at + 1) parts))
 
-pub built-part : (parts : List Part) (at : ℕ) (p : Part) → at < length parts → get_or parts at p ≡ p → built parts at
+pub built-part : (parts : List Part) (at : ℕ) (p : Part) → at < length parts → get_or parts at p ≡ p
+    → tree_of_part parts at
     ≡ part_tree (trees_of (take at parts)) p
 built-part parts at p lt e =
     let len : length (take at parts) ≡ at = omega (arith, length-take at parts) in
-    ap (λ (t : List Part). built t at) (cut_part parts at p lt e)
+    ap (λ (t : List Part). tree_of_part t at) (cut_part parts at p lt e)
     ∙ built-append (take at parts ++ (p ∷ [])) (drop (at + 1) parts) at
     (omega (arith, length-append (take at parts) (p ∷ [])))
-    ∙ ap (λ (k : ℕ). built (take at parts ++ (p ∷ [])) k) (sym len)
+    ∙ ap (λ (k : ℕ). tree_of_part (take at parts ++ (p ∷ [])) k) (sym len)
     ∙ built-last (take at parts) p
 
 -- past the last part, the tree is the variable
-pub built-past : (parts : List Part) (k : ℕ) → length parts ≤ k → built parts k ≡ Variable
+pub built-past : (parts : List Part) (k : ℕ) → length parts ≤ k → tree_of_part parts k ≡ Variable
 built-past parts k le = get_or_past (trees_of parts) k Variable (omega (arith, length-trees_of parts))
 
 -- ---- what was added
@@ -80,13 +80,15 @@ Builds-part old new p i e f = record {
   more = p ∷ [];
   grown = f;
   there = omega (arith, ap length f, length-append old (p ∷ []));
-  is = ap (λ (t : List Part). built t i) f ∙ ap (λ (k : ℕ). built (old ++ (p ∷ [])) k) e ∙ built-last old p;
+  is = ap (λ (t : List Part). tree_of_part t i) f ∙ ap (λ (k : ℕ). tree_of_part (old ++ (p ∷ [])) k) e
+      ∙ built-last old p;
 }
 
 -- earlier parts stand for the trees that they stood for before
-Builds-keeps : (old new : List Part) (i : ℕ) (t : Tree) (k : ℕ) → Builds old new i t → k < length old → built new k
-    ≡ built old k
-Builds-keeps old new i t k h lt = ap (λ (ps : List Part). built ps k) h.grown ∙ built-append old h.more k lt
+Builds-keeps : (old new : List Part) (i : ℕ) (t : Tree) (k : ℕ) → Builds old new i t → k < length old
+    → tree_of_part new k
+    ≡ tree_of_part old k
+Builds-keeps old new i t k h lt = ap (λ (ps : List Part). tree_of_part ps k) h.grown ∙ built-append old h.more k lt
 
 Builds-longer : (old new : List Part) (i : ℕ) (t : Tree) (k : ℕ) → Builds old new i t → k < length old → k < length new
 Builds-longer old new i t k h lt = omega (arith, ap length h.grown, length-append old h.more)
@@ -114,7 +116,7 @@ pub builds_binary : (old first second new : List Part) (operator : Operator) (i 
     (part_tree (trees_of second) (Combine operator i j)) → Binary operator left right ≡ whole → Builds old new k whole
 builds_binary old first second new operator i j k left right whole h l m same =
     Builds-both old second new j k right _ whole (Builds-both old first second i j left right right h l refl) m
-    (ap (λ (t : Tree). Binary operator t (built second j)) (Builds-keeps first second j right i l h.there ∙ h.is)
+    (ap (λ (t : Tree). Binary operator t (tree_of_part second j)) (Builds-keeps first second j right i l h.there ∙ h.is)
     ∙ ap (λ (t : Tree). Binary operator left t) l.is ∙ same)
 
 pub builds_choice : (old first second third new : List Part) (i j k l : ℕ) (condition chosen other whole : Tree)
@@ -123,10 +125,11 @@ pub builds_choice : (old first second third new : List Part) (i j k l : ℕ) (co
     → Builds old new l whole
 builds_choice old first second third new i j k l condition chosen other whole a b c d same =
     let two : Builds old second j chosen = Builds-both old first second i j condition chosen chosen a b refl in
-    let i_is : built third i ≡ condition = Builds-keeps second third k other i c
+    let i_is : tree_of_part third i ≡ condition = Builds-keeps second third k other i c
     (Builds-longer first second j chosen i b a.there) ∙ Builds-keeps first second j chosen i b a.there ∙ a.is in
-    let j_is : built third j ≡ chosen = Builds-keeps second third k other j c b.there ∙ b.is in
+    let j_is : tree_of_part third j ≡ chosen = Builds-keeps second third k other j c b.there ∙ b.is in
     Builds-both old third new k l other _ whole (Builds-both old second third j k chosen other other two c refl) d
-    (ap (λ (t : Tree). Choice t (built third j) (built third k)) i_is
-    ∙ ap (λ (t : Tree). Choice condition t (built third k)) j_is ∙ ap (λ (t : Tree). Choice condition chosen t) c.is
+    (ap (λ (t : Tree). Choice t (tree_of_part third j) (tree_of_part third k)) i_is
+    ∙ ap (λ (t : Tree). Choice condition t (tree_of_part third k)) j_is
+    ∙ ap (λ (t : Tree). Choice condition chosen t) c.is
     ∙ same)

@@ -1,9 +1,8 @@
 -- A text has exactly one plural rule.
-use Rattle.std.proofs.Common.{◌≡◌, ℕ, List, Option, Some, None, refl, sym, ap, subst, arith, inl, inr}
+use Rattle.po_header.proofs.Kit.{◌≡◌, ℕ, List, Option, Some, None, refl, sym, ap, subst, arith, inl, inr, Token, Tree}
+use Rattle.po_header.proofs.Kit.{Derives}
 use Rattle.std.specs.Prelude.{◌⊎◌, codes}
-use Rattle.po_header.specs.declared.token.Token.{Token}
 use Rattle.po_header.specs.Searching.{behind_first}
-use Rattle.po_header.specs.Grammar.{Tree, Derives}
 use Rattle.po_header.specs.Expression.{expression, IsTooLong, IsReadAs, IsMalformed}
 use Rattle.po_header.specs.Rule.{Rule, Given, Absent, Broken, HasRule, HasBoth, IsGiven, IsBroken, leading_number}
 use Rattle.po_header.proofs.Feeding.{Derives-one}

@@ -1,15 +1,11 @@
 -- The parser's steps through a text.
-use Rattle.std.proofs.Common.{◌≡◌, ◌≢◌, List, [], ◌∷◌, ◌++◌, Option, Some, None, refl, sym, ap, ◌∙◌}
-use Rattle.po_header.specs.declared.token.Token.{Token}
-use Rattle.po_header.specs.declared.tree.Node.{Node}
+use Rattle.po_header.proofs.Kit.{◌≡◌, ◌≢◌, List, [], ◌∷◌, ◌++◌, Option, Some, None, refl, sym, ap, ◌∙◌, Token, Node}
+use Rattle.po_header.proofs.Kit.{Begins, Tree, IsStray, State, start, step, steps, finish}
 use Rattle.po_header.specs.declared.parse.Frame.{Frame}
 use Rattle.std.specs.Prelude.{ℕ}
-use Rattle.po_header.specs.Tokens.{Begins}
-use Rattle.po_header.specs.Grammar.{Tree}
 use Rattle.po_header.specs.Expression.{SpellsTree}
-use Rattle.po_header.specs.ExprParsing.{IsStray, StopsBlanks}
+use Rattle.po_header.specs.ExprParsing.{StopsBlanks}
 use Rattle.po_header.specs.Frames.{state_of}
-use Rattle.po_header.specs.Stack.{State, start, step, steps, finish}
 use Rattle.po_header.proofs.Feeding.{steps-append, finds_tree}
 use Rattle.po_header.proofs.Holding.{derives_found}
 use Rattle.po_header.proofs.OneSpelling.{Begins-append, spelled_after, stray_behind, Spells-one}

@@ -11,9 +11,9 @@ use Rattle.po_header.specs.declared.steps.Step.{Step}
 use Rattle.po_header.specs.declared.steps.Step.TheVariants.{Test}
 use Rattle.po_header.specs.declared.token.Operator.TheVariants.{Equal, NotEqual, Less, Greater, AtMost, AtLeast}
 use Rattle.po_header.specs.declared.tree.Node.{Node}
-use Rattle.po_header.specs.TreeValue.{truth, opposite, choice, either, conjoined}
-use Rattle.po_header.specs.ChoiceSteps.{AddsSteps, IsTest, chosen_step, node_value, measured, is_within}
-use Rattle.po_header.specs.ChoiceSteps.{reached, step_value, step_values, values_from, value_at}
+use Rattle.po_header.specs.TreeValue.{truth, opposite, choice, either, conjunction}
+use Rattle.po_header.specs.ChoiceSteps.{AddsSteps, IsTest, chosen_step, node_value, remainder_of, is_within}
+use Rattle.po_header.specs.ChoiceSteps.{value_reached, step_value, step_values, values_from, value_at}
 
 -- ---- values of steps
 
@@ -44,13 +44,14 @@ length-step_values : (steps : List Step) (n : ℕ) → length (step_values n ste
 length-step_values steps n = omega (arith, length-values_from steps [] n)
 
 -- appending steps leaves the earlier ones unchanged
-pub reached-append : (old more : List Step) (n k : ℕ) → k < length old → reached (old ++ more) k n ≡ reached old k n
+pub reached-append : (old more : List Step) (n k : ℕ) → k < length old → value_reached (old ++ more) k n
+    ≡ value_reached old k n
 reached-append old more n k lt =
     ap (λ (vs : List (Option ℕ)). value_at vs k) (values_from-append old more [] n)
     ∙ values_from-keeps more (step_values n old) n k (omega (arith, length-step_values old n))
 
 -- the step that was appended last
-pub reached-last : (old : List Step) (s : Step) (n : ℕ) → reached (old ++ (s ∷ [])) (length old) n
+pub reached-last : (old : List Step) (s : Step) (n : ℕ) → value_reached (old ++ (s ∷ [])) (length old) n
     ≡ step_value (step_values n old) n s
 reached-last old s n =
     ap (λ (vs : List (Option ℕ)). value_at vs (length old)) (values_from-append old (s ∷ []) [] n)
@@ -76,15 +77,16 @@ AddsSteps-step old new s i e f = record {
   more = s ∷ [];
   grown = f;
   there = omega (arith, ap length f, length-append old (s ∷ []));
-  reaches = λ n. ap (λ (t : List Step). reached t i n) f ∙ ap (λ (k : ℕ). reached (old ++ (s ∷ [])) k n) e
+  reaches = λ n. ap (λ (t : List Step). value_reached t i n) f ∙ ap (λ (k : ℕ). value_reached (old ++ (s ∷ [])) k n) e
       ∙ reached-last old s n;
 }
 
 -- earlier steps reach what they reached before
 pub AddsSteps-keeps : (old new : List Step) (i : ℕ) (f : ℕ → Option ℕ) (k n : ℕ) → AddsSteps old new i f
     → k < length old
-    → reached new k n ≡ reached old k n
-AddsSteps-keeps old new i f k n h lt = ap (λ (t : List Step). reached t k n) h.grown ∙ reached-append old h.more n k lt
+    → value_reached new k n ≡ value_reached old k n
+AddsSteps-keeps old new i f k n h lt = ap (λ (t : List Step). value_reached t k n) h.grown
+    ∙ reached-append old h.more n k lt
 
 pub AddsSteps-longer : (old new : List Step) (i k : ℕ) (f : ℕ → Option ℕ) → AddsSteps old new i f → k < length old
     → k < length new
@@ -123,7 +125,7 @@ choice-either (Some x) (Some y) a b = elim (cases_eq x 0) [
   | inr e ↦ rw (ne_eqb x 0 e) refl
 ]
 
-pub choice-conjoined : (left right a b : Option ℕ) → choice (conjoined left right) a b
+pub choice-conjoined : (left right a b : Option ℕ) → choice (conjunction left right) a b
     ≡ choice left (choice right a b) b
 choice-conjoined None right a b = refl
 choice-conjoined (Some x) None a b = elim (cases_eq x 0) [
@@ -195,27 +197,27 @@ by_not t w a b e = sym (ap (λ (x : Bool). choice (Some (truth x)) a b) e ∙ ch
 -- a test of one bound, in each of its forms
 pub test-equal : (m k here there : ℕ) → IsTest (Test m k k here there) Equal m k here there
 test-equal m k here there found n = by_truth _ _ (value_at found here) (value_at found there)
-    (sym (within-equal (measured m n) k))
+    (sym (within-equal (remainder_of m n) k))
 
 pub test-not_equal : (m k here there : ℕ) → IsTest (Test m k k there here) NotEqual m k here there
 test-not_equal m k here there found n = by_not _ _ (value_at found here) (value_at found there)
-    (ap not (sym (within-equal (measured m n) k)))
+    (ap not (sym (within-equal (remainder_of m n) k)))
 
 pub test-at_most : (m k here there : ℕ) → IsTest (Test m 0 k here there) AtMost m k here there
 test-at_most m k here there found n = by_truth _ _ (value_at found here) (value_at found there)
-    (sym (within-most (measured m n) k))
+    (sym (within-most (remainder_of m n) k))
 
 pub test-greater : (m k here there : ℕ) → IsTest (Test m 0 k there here) Greater m k here there
 test-greater m k here there found n = by_not _ _ (value_at found here) (value_at found there)
-    (within-greater (measured m n) k)
+    (within-greater (remainder_of m n) k)
 
 pub test-less : (m k here there : ℕ) → 0 < k → IsTest (Test m 0 (k - 1) here there) Less m k here there
 test-less m k here there some found n = by_truth _ _ (value_at found here) (value_at found there)
-    (within-less (measured m n) k some)
+    (within-less (remainder_of m n) k some)
 
 pub test-at_least : (m k here there : ℕ) → 0 < k → IsTest (Test m 0 (k - 1) there here) AtLeast m k here there
 test-at_least m k here there some found n = by_not _ _ (value_at found here) (value_at found there)
-    (within-least (measured m n) k some)
+    (within-least (remainder_of m n) k some)
 
 -- ---- running
 
@@ -228,20 +230,20 @@ cut_step steps at s lt e =
     ∙ sym (append_assoc (take at steps) (s ∷ []) (drop (at + 1) steps))
 
 pub reached-step : (steps : List Step) (at n : ℕ) (s : Step) → at < length steps → get_or steps at s ≡ s
-    → reached steps at n ≡ step_value (step_values n (take at steps)) n s
+    → value_reached steps at n ≡ step_value (step_values n (take at steps)) n s
 reached-step steps at n s lt e =
     let len : length (take at steps) ≡ at = omega (arith, length-take at steps) in
-    ap (λ (t : List Step). reached t at n) (cut_step steps at s lt e)
+    ap (λ (t : List Step). value_reached t at n) (cut_step steps at s lt e)
     ∙ reached-append (take at steps ++ (s ∷ [])) (drop (at + 1) steps) n at
     (omega (arith, length-append (take at steps) (s ∷ [])))
-    ∙ ap (λ (k : ℕ). reached (take at steps ++ (s ∷ [])) k n) (sym len)
+    ∙ ap (λ (k : ℕ). value_reached (take at steps ++ (s ∷ [])) k n) (sym len)
     ∙ reached-last (take at steps) s n
 
 -- an earlier step
 pub reached-earlier : (steps : List Step) (at k n : ℕ) → at < length steps → k < at
-    → value_at (step_values n (take at steps)) k ≡ reached steps k n
+    → value_at (step_values n (take at steps)) k ≡ value_reached steps k n
 reached-earlier steps at k n lt less =
-    sym (ap (λ (t : List Step). reached t k n) (sym (take-append-drop at steps))
+    sym (ap (λ (t : List Step). value_reached t k n) (sym (take-append-drop at steps))
     ∙ reached-append (take at steps) (drop at steps) n k (omega (arith, length-take at steps)))
 
 -- there is no step from here on
@@ -264,25 +266,27 @@ pub adds_either : (old mid new : List Step) (whole left right : Node) (here ther
 adds_either old mid new whole left right here there rest i is lt h k =
     AddsSteps-map old new i (chosen_step mid left here rest) (chosen_step old whole here there)
     (λ n.
-    ap (λ (a : Option ℕ). choice (node_value left n) a (reached mid rest n))
+    ap (λ (a : Option ℕ). choice (node_value left n) a (value_reached mid rest n))
     (AddsSteps-keeps old mid rest (chosen_step old right here there) here n h lt)
-    ∙ ap (λ (b : Option ℕ). choice (node_value left n) (reached old here n) b) (h.reaches n)
-    ∙ sym (choice-either (node_value left n) (node_value right n) (reached old here n) (reached old there n))
-    ∙ ap (λ (v : Option ℕ). choice v (reached old here n) (reached old there n)) (sym (is n)))
+    ∙ ap (λ (b : Option ℕ). choice (node_value left n) (value_reached old here n) b) (h.reaches n)
+    ∙ sym (choice-either (node_value left n) (node_value right n) (value_reached old here n)
+    (value_reached old there n))
+    ∙ ap (λ (v : Option ℕ). choice v (value_reached old here n) (value_reached old there n)) (sym (is n)))
     (AddsSteps-both old mid new rest i (chosen_step old right here there) (chosen_step mid left here rest) h k)
 
 pub adds_both_sides : (old mid new : List Step) (whole left right : Node) (here there rest i : ℕ)
-    → ((n : ℕ) → node_value whole n ≡ conjoined (node_value left n) (node_value right n)) → there < length old
+    → ((n : ℕ) → node_value whole n ≡ conjunction (node_value left n) (node_value right n)) → there < length old
     → AddsSteps old mid rest (chosen_step old right here there) → AddsSteps mid new i (chosen_step mid left rest there)
     → AddsSteps old new i (chosen_step old whole here there)
 adds_both_sides old mid new whole left right here there rest i is lt h k =
     AddsSteps-map old new i (chosen_step mid left rest there) (chosen_step old whole here there)
     (λ n.
-    ap (λ (b : Option ℕ). choice (node_value left n) (reached mid rest n) b)
+    ap (λ (b : Option ℕ). choice (node_value left n) (value_reached mid rest n) b)
     (AddsSteps-keeps old mid rest (chosen_step old right here there) there n h lt)
-    ∙ ap (λ (a : Option ℕ). choice (node_value left n) a (reached old there n)) (h.reaches n)
-    ∙ sym (choice-conjoined (node_value left n) (node_value right n) (reached old here n) (reached old there n))
-    ∙ ap (λ (v : Option ℕ). choice v (reached old here n) (reached old there n)) (sym (is n)))
+    ∙ ap (λ (a : Option ℕ). choice (node_value left n) a (value_reached old there n)) (h.reaches n)
+    ∙ sym (choice-conjoined (node_value left n) (node_value right n) (value_reached old here n)
+    (value_reached old there n))
+    ∙ ap (λ (v : Option ℕ). choice v (value_reached old here n) (value_reached old there n)) (sym (is n)))
     (AddsSteps-both old mid new rest i (chosen_step old right here there) (chosen_step mid left rest there) h k)
 
 -- a choice: the steps of its condition, after those of its sides
@@ -293,7 +297,7 @@ pub adds_choice : (old first second new : List Step) (whole condition chosen oth
 adds_choice old first second new whole condition chosen other here there i is h k l =
     AddsSteps-map old new i (chosen_step second condition here there) (node_value whole)
     (λ n.
-    ap (λ (a : Option ℕ). choice (node_value condition n) a (reached second there n))
+    ap (λ (a : Option ℕ). choice (node_value condition n) a (value_reached second there n))
     (AddsSteps-keeps first second there (node_value other) here n k h.there ∙ h.reaches n)
     ∙ ap (λ (b : Option ℕ). choice (node_value condition n) (node_value chosen n) b) (k.reaches n)
     ∙ sym (is n))
@@ -301,7 +305,7 @@ adds_choice old first second new whole condition chosen other here there i is h 
     (AddsSteps-both old first second here there (node_value chosen) (node_value other) h k) l)
 
 -- what `get` found
-pub reached-past : (steps : List Step) (at n : ℕ) → false ≡ nat_lt at (length steps) → None ≡ reached steps at n
+pub reached-past : (steps : List Step) (at n : ℕ) → false ≡ nat_lt at (length steps) → None ≡ value_reached steps at n
 reached-past steps at n e = sym (reached-none steps at n (ltb-false at (length steps) (sym e)))
 
 -- the sides of an operator, as its boxes hold them

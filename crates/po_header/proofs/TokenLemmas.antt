@@ -1,7 +1,6 @@
 -- Tokens at the front of a text, and where there is none.
-use Rattle.std.proofs.Common.{◌≡◌, ◌≢◌, ℕ, ◌+◌, ◌-◌, ◌*◌, ◌<◌, ◌≤◌, ◌^◌, true, false}
-use Rattle.std.proofs.Common.{List, [], ◌∷◌, ◌++◌, take, drop, length, get_or, Option, Some, None}
-use Rattle.std.proofs.Common.{refl, sym, ap, ◌∙◌, subst, arith, inl, inr, one-add}
+use Rattle.std.proofs.Common.{◌≡◌, ◌≢◌, ℕ, ◌+◌, ◌-◌, ◌*◌, ◌<◌, ◌≤◌, ◌^◌, true, false, List, [], ◌∷◌, ◌++◌, take, drop}
+use Rattle.std.proofs.Common.{length, get_or, Option, Some, None, refl, sym, ap, ◌∙◌, subst, arith, inl, inr, one-add}
 use Rattle.std.specs.Prelude.{◌⊎◌, nat_lt}
 use Rattle.std.specs.List.{take_while, prefix_len, fold}
 use Rattle.std.specs.Char.{is_ascii_digit}
@@ -161,11 +160,8 @@ large_numeral text some large (Long a b token) rest p = no_symbol token _
     (digit_no_long a b (first_digit text a (b ∷ rest) some p.0)) p.1
 
 pub nothing_stray : (text : List ℕ) → text ≡ [] → IsStray text
-nothing_stray text e (Blank b) rest p = let f = p.0 in absurd (cc (e, f))
 nothing_stray text e (Digits []) rest p = p.2 refl
-nothing_stray text e (Digits (d ∷ digits)) rest p = let f = p.0 in absurd (cc (e, f))
-nothing_stray text e (Short b token) rest p = let f = p.0 in absurd (cc (e, f))
-nothing_stray text e (Long a b token) rest p = let f = p.0 in absurd (cc (e, f))
+nothing_stray text e _ rest p = let f = p.0 in absurd (cc (e, f))
 
 pub byte_stray : (text : List ℕ) (b : ℕ) (more : List ℕ) → text ≡ b ∷ more → StopsBlanks text → long_at text ≡ None
     → is_ascii_digit b ≡ false → None ≡ short_symbol (b ∷ []) → IsStray text

@@ -1,4 +1,4 @@
--- Private: the trees that a list of parts stands for, each part after its operands; `tree_of` cites `built`.
+-- Private: the trees that a list of parts stands for, each part after its operands; `tree_of` cites `tree_of_part`.
 use Rattle.std.specs.Prelude.{◌≡◌, ℕ, ◌<◌, List, [], ◌∷◌, ◌++◌, length, slice_index_or}
 use Rattle.po_header.specs.declared.parts.Part.{Part}
 use Rattle.po_header.specs.declared.parts.Part.TheVariants.{Count, Number, OfCount, OfRemainder}
@@ -30,12 +30,12 @@ abbrev pub trees_of : List Part → List Tree
 trees_of parts = trees_from [] parts
 
 -- the tree of the part with this index
-abbrev pub built : List Part → ℕ → Tree
-built parts i = tree_at (trees_of parts) i
+abbrev pub tree_of_part : List Part → ℕ → Tree
+tree_of_part parts i = tree_at (trees_of parts) i
 
 -- parts were appended, and the one with this index stands for this tree
 pub record Builds (old new : List Part) (i : ℕ) (tree : Tree) : Type 0 where
   pub more : List Part
   pub grown : new ≡ old ++ more
   pub there : i < length new
-  pub is : built new i ≡ tree
+  pub is : tree_of_part new i ≡ tree

@@ -19,12 +19,12 @@ pub record State : Type 0 where
   pub operand : Option Tree
 
 -- an operand is expected
-abbrev pub wanting : List Waiting → Option State
-wanting ws = Some (record { waiting = ws; operand = None })
+abbrev pub without_operand : List Waiting → Option State
+without_operand ws = Some (record { waiting = ws; operand = None })
 
 -- an operand was read
-abbrev pub having : List Waiting × Tree → Option State
-having p = Some (record { waiting = p.0; operand = Some p.1 })
+abbrev pub with_operand : List Waiting × Tree → Option State
+with_operand p = Some (record { waiting = p.0; operand = Some p.1 })
 
 -- whether it takes an operand that is followed by an operator of this level
 abbrev pub joins_on : ℕ → Waiting → Bool
@@ -39,47 +39,47 @@ join_tree (BranchWaits c a) t = Choice c a t
 join_tree w t = t
 
 -- the operand, joined with what waits for it at this level or a tighter one
-abbrev pub joined : ℕ → List Waiting → Tree → List Waiting × Tree
-joined k [] t = ([], t)
-joined k (w ∷ ws) t = if joins_on k w then joined k ws (join_tree w t) else (w ∷ ws, t)
+abbrev pub joined_operand : ℕ → List Waiting → Tree → List Waiting × Tree
+joined_operand k [] t = ([], t)
+joined_operand k (w ∷ ws) t = if joins_on k w then joined_operand k ws (join_tree w t) else (w ∷ ws, t)
 
 abbrev pub is_bang_waits : Waiting → Bool
 is_bang_waits BangWaits = true
 is_bang_waits w = false
 
 -- the operand, negated once for each `!` before it
-abbrev pub negated : List Waiting → Tree → List Waiting × Tree
-negated [] t = ([], t)
-negated (w ∷ ws) t = if is_bang_waits w then negated ws (Negation t) else (w ∷ ws, t)
+abbrev pub negated_operand : List Waiting → Tree → List Waiting × Tree
+negated_operand [] t = ([], t)
+negated_operand (w ∷ ws) t = if is_bang_waits w then negated_operand ws (Negation t) else (w ∷ ws, t)
 
 abbrev pub colon : List Waiting × Tree → Option State
-colon (ConditionWaits c ∷ ws, t) = wanting (BranchWaits c t ∷ ws)
+colon (ConditionWaits c ∷ ws, t) = without_operand (BranchWaits c t ∷ ws)
 colon (ws, t) = None
 
 abbrev pub close : List Waiting × Tree → Option State
-close (BracketWaits ∷ ws, t) = having (negated ws t)
+close (BracketWaits ∷ ws, t) = with_operand (negated_operand ws t)
 close (ws, t) = None
 
 -- a token where an operand is expected
 abbrev pub begin : List Waiting → Token → Option State
-begin ws Count = having (negated ws Variable)
-begin ws (Number v) = having (negated ws (Constant v))
-begin ws Open = wanting (BracketWaits ∷ ws)
-begin ws Bang = wanting (BangWaits ∷ ws)
+begin ws Count = with_operand (negated_operand ws Variable)
+begin ws (Number v) = with_operand (negated_operand ws (Constant v))
+begin ws Open = without_operand (BracketWaits ∷ ws)
+begin ws Bang = without_operand (BangWaits ∷ ws)
 begin ws _ = None
 
 abbrev pub left_waits : Operator → List Waiting × Tree → Option State
-left_waits op p = wanting (LeftWaits op p.1 ∷ p.0)
+left_waits op p = without_operand (LeftWaits op p.1 ∷ p.0)
 
 abbrev pub condition_waits : List Waiting × Tree → Option State
-condition_waits p = wanting (ConditionWaits p.1 ∷ p.0)
+condition_waits p = without_operand (ConditionWaits p.1 ∷ p.0)
 
 -- a token after an operand
 abbrev pub go_on : List Waiting → Tree → Token → Option State
-go_on ws t (Sign op) = left_waits op (joined (level op) ws t)
-go_on ws t Question = condition_waits (joined 2 ws t)
-go_on ws t Colon = colon (joined 1 ws t)
-go_on ws t Close = close (joined 1 ws t)
+go_on ws t (Sign op) = left_waits op (joined_operand (level op) ws t)
+go_on ws t Question = condition_waits (joined_operand 2 ws t)
+go_on ws t Colon = colon (joined_operand 1 ws t)
+go_on ws t Close = close (joined_operand 1 ws t)
 go_on ws t _ = None
 
 abbrev pub step_at : List Waiting → Option Tree → Token → Option State
@@ -95,15 +95,15 @@ steps s [] = s
 steps s (token ∷ more) = steps (step s token) more
 
 abbrev pub start : Option State
-start = wanting []
+start = without_operand []
 
-abbrev pub ended : List Waiting × Tree → Option Tree
-ended ([], t) = Some t
-ended (w ∷ ws, t) = None
+abbrev pub tree_at_end : List Waiting × Tree → Option Tree
+tree_at_end ([], t) = Some t
+tree_at_end (w ∷ ws, t) = None
 
 abbrev pub finish_at : List Waiting → Option Tree → Option Tree
 finish_at ws None = None
-finish_at ws (Some t) = ended (joined 1 ws t)
+finish_at ws (Some t) = tree_at_end (joined_operand 1 ws t)
 
 -- the tree of all tokens, if they form one
 abbrev pub finish : Option State → Option Tree

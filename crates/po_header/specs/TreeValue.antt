@@ -31,9 +31,9 @@ either None right = None
 either (Some x) right = if x == 0 then option_map truth_of right else Some 1
 
 -- `&&`: the right side is evaluated only if the left isn't 0 (C standard, 6.5.13)
-abbrev pub conjoined : Option ℕ → Option ℕ → Option ℕ
-conjoined None right = None
-conjoined (Some x) right = if x == 0 then Some 0 else option_map truth_of right
+abbrev pub conjunction : Option ℕ → Option ℕ → Option ℕ
+conjunction None right = None
+conjunction (Some x) right = if x == 0 then Some 0 else option_map truth_of right
 
 -- `? :`: only the side that is chosen is evaluated (C standard, 6.5.15)
 abbrev pub choice : Option ℕ → Option ℕ → Option ℕ → Option ℕ
@@ -41,25 +41,25 @@ choice None chosen other = None
 choice (Some x) chosen other = if x == 0 then other else chosen
 
 -- an operator applied to the values of its sides; division and remainder by 0 have no value (C standard, 6.5.5)
-abbrev pub combined : Operator → Option ℕ → Option ℕ → Option ℕ
-combined Or left right = either left right
-combined And left right = conjoined left right
-combined Equal left right = both (λ x y. Some (truth (x == y))) left right
-combined NotEqual left right = both (λ x y. Some (truth (not (x == y)))) left right
-combined Less left right = both (λ x y. Some (truth (nat_lt x y))) left right
-combined Greater left right = both (λ x y. Some (truth (nat_lt y x))) left right
-combined AtMost left right = both (λ x y. Some (truth (nat_le x y))) left right
-combined AtLeast left right = both (λ x y. Some (truth (nat_le y x))) left right
-combined Add left right = both (λ x y. Some ((x + y) % 2 ^ 64)) left right
-combined Subtract left right = both (λ x y. Some ((x + (2 ^ 64 - y)) % 2 ^ 64)) left right
-combined Multiply left right = both (λ x y. Some ((x * y) % 2 ^ 64)) left right
-combined Divide left right = both (λ x y. if y == 0 then None else Some (x / y)) left right
-combined Remainder left right = both (λ x y. if y == 0 then None else Some (x % y)) left right
+abbrev pub operator_value : Operator → Option ℕ → Option ℕ → Option ℕ
+operator_value Or left right = either left right
+operator_value And left right = conjunction left right
+operator_value Equal left right = both (λ x y. Some (truth (x == y))) left right
+operator_value NotEqual left right = both (λ x y. Some (truth (not (x == y)))) left right
+operator_value Less left right = both (λ x y. Some (truth (nat_lt x y))) left right
+operator_value Greater left right = both (λ x y. Some (truth (nat_lt y x))) left right
+operator_value AtMost left right = both (λ x y. Some (truth (nat_le x y))) left right
+operator_value AtLeast left right = both (λ x y. Some (truth (nat_le y x))) left right
+operator_value Add left right = both (λ x y. Some ((x + y) % 2 ^ 64)) left right
+operator_value Subtract left right = both (λ x y. Some ((x + (2 ^ 64 - y)) % 2 ^ 64)) left right
+operator_value Multiply left right = both (λ x y. Some ((x * y) % 2 ^ 64)) left right
+operator_value Divide left right = both (λ x y. if y == 0 then None else Some (x / y)) left right
+operator_value Remainder left right = both (λ x y. if y == 0 then None else Some (x % y)) left right
 
 -- the value at n, if there is one
 abbrev pub value : Tree → ℕ → Option ℕ
 value Variable n = Some n
 value (Constant v) n = Some v
 value (Negation operand) n = option_map opposite (value operand n)
-value (Binary operator left right) n = combined operator (value left n) (value right n)
+value (Binary operator left right) n = operator_value operator (value left n) (value right n)
 value (Choice condition chosen other) n = choice (value condition n) (value chosen n) (value other n)

@@ -2,8 +2,8 @@
 ghost use Rattle.std.specs.Prelude.{◌≡◌, ℕ, ◌<◌, IfOk, length};
 ghost use Rattle.std.proofs.Props.{props};
 ghost use Rattle.po_header.specs.TreeValue.{value};
-ghost use Rattle.po_header.specs.ExprParts.{built};
-ghost use Rattle.po_header.specs.ChoiceSteps.{reached};
+ghost use Rattle.po_header.specs.ExprParts.{tree_of_part};
+ghost use Rattle.po_header.specs.ChoiceSteps.{value_reached};
 
 use crate::parts::{Part, value_at};
 use crate::steps::{Step, run};
@@ -20,7 +20,7 @@ pub(crate) struct Formula {
     steps: Vec<Step>,
     start: usize,
     ghost agrees: { (n : ℕ) → 0 < length steps.items →
-        reached steps.items start n ≡ value (built parts.items root) n } by { Prim.hlevel props },
+        value_reached steps.items start n ≡ value (tree_of_part parts.items root) n } by { Prim.hlevel props },
 }
 
 impl Formula {

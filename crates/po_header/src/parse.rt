@@ -7,7 +7,7 @@ ghost use Rattle.po_header.specs.Expression.{expression, SpellsTree, IsReadAs, I
 ghost use Rattle.po_header.specs.Nodes.{node_tree};
 ghost use Rattle.po_header.specs.Expr.{tree_of};
 ghost use Rattle.po_header.specs.Frames.{frame_waits, stack_of, state_of, IsFault};
-ghost use Rattle.po_header.specs.Stack.{joined, joins_on, join_tree, is_bang_waits, negated, begin};
+ghost use Rattle.po_header.specs.Stack.{joined_operand, joins_on, join_tree, is_bang_waits, negated_operand, begin};
 ghost use Rattle.po_header.specs.Stack.{close, colon, go_on, step, finish};
 ghost use Rattle.po_header.specs.declared.ExprFault.TheVariants.{TooLong, Malformed, Memory};
 ghost use Rattle.po_header.specs.declared.token.Token.{Token};
@@ -86,7 +86,8 @@ fn join_above(
     level: u8,
 ) -> Result<Node, AllocError>
     ensures { IfOk result (λ node.
-        joined level (stack_of waiting.old.items) (node_tree operand) ≡ (stack_of waiting.new.items, node_tree node)) }
+        joined_operand level (stack_of waiting.old.items) (node_tree operand)
+        ≡ (stack_of waiting.new.items, node_tree node)) }
 {
     let mut operand = operand;
     'frames: while let Some(frame) = waiting.pop() {
@@ -102,7 +103,8 @@ fn join_above(
 /// Negates the operand once for each `!` before it.
 fn negate(alloc: Global, waiting: &mut Vec<Frame>, operand: Node) -> Result<Node, AllocError>
     ensures { IfOk result (λ node.
-        negated (stack_of waiting.old.items) (node_tree operand) ≡ (stack_of waiting.new.items, node_tree node)) }
+        negated_operand (stack_of waiting.old.items) (node_tree operand)
+        ≡ (stack_of waiting.new.items, node_tree node)) }
 {
     let mut operand = operand;
     'frames: while let Some(frame) = waiting.last() {

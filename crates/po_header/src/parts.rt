@@ -1,9 +1,9 @@
 //! Plural expressions as a list of parts, each after its operands, and their values. No part owns another, so the
 //! prover sees at once that a rule can be sent to another thread.
 ghost use Rattle.std.specs.Prelude.{◌≡◌, ℕ, Option, None, Some, IfOk, IfSome, IfNone};
-ghost use Rattle.po_header.specs.TreeValue.{combined, truth, value};
+ghost use Rattle.po_header.specs.TreeValue.{operator_value, truth, value};
 ghost use Rattle.po_header.specs.Nodes.{node_tree};
-ghost use Rattle.po_header.specs.ExprParts.{Builds, built, part_tree, trees_of};
+ghost use Rattle.po_header.specs.ExprParts.{Builds, tree_of_part, part_tree, trees_of};
 
 use crate::token::Operator;
 use crate::tree::Node;
@@ -32,7 +32,7 @@ fn number_of_truth(holds: bool) -> u64
 
 /// Applies an operator to two values; None for a division by 0.
 fn apply(operator: Operator, left: u64, right: u64) -> Option<u64>
-    ensures { result ≡ combined operator (Some left) (Some right) }
+    ensures { result ≡ operator_value operator (Some left) (Some right) }
 {
     match operator {
         Operator::Or => Some(number_of_truth(left != 0 || right != 0)),
@@ -53,8 +53,8 @@ fn apply(operator: Operator, left: u64, right: u64) -> Option<u64>
 
 /// The value of `||` or `&&`, if the left side alone decides it.
 fn decide(operator: Operator, left: u64) -> Option<u64>
-    ensures some { IfSome result (λ v. (right : Option ℕ) → combined operator (Some left) right ≡ Some v) }
-    ensures none { IfNone result (combined operator (Some left) None ≡ None) }
+    ensures some { IfSome result (λ v. (right : Option ℕ) → operator_value operator (Some left) right ≡ Some v) }
+    ensures none { IfNone result (operator_value operator (Some left) None ≡ None) }
 {
     match operator {
         Operator::Or if left != 0 => Some(1),
@@ -102,7 +102,7 @@ fn part_value(part: Part, below: &[Part], n: u64) -> Option<u64>
 /// evaluated.
 #[cycle(evaluation)]
 pub(crate) fn value_at(parts: &[Part], at: usize, n: u64) -> Option<u64>
-    ensures { result ≡ value (built parts.now at) n }
+    ensures { result ≡ value (tree_of_part parts.now at) n }
 {
     let Some(part) = parts.get(at) else {
         return Some(n)

@@ -1,9 +1,9 @@
 //! Plural expressions as a list of steps: each is a value, or a test of `n` that continues at one of two earlier steps.
 //! Most rules are choices between numbers by such tests.
 ghost use Rattle.std.specs.Prelude.{◌≡◌, ℕ, ◌<◌, ◌++◌, ◌∷◌, [], List, Option, Some, IfOk, IfSome, IfNone, length};
-ghost use Rattle.po_header.specs.TreeValue.{choice, combined};
-ghost use Rattle.po_header.specs.ChoiceSteps.{AddsSteps, IsTest, chosen_step, is_within, measured};
-ghost use Rattle.po_header.specs.ChoiceSteps.{node_value, reached, step_value, step_values, value_at};
+ghost use Rattle.po_header.specs.TreeValue.{choice, operator_value};
+ghost use Rattle.po_header.specs.ChoiceSteps.{AddsSteps, IsTest, chosen_step, is_within, remainder_of};
+ghost use Rattle.po_header.specs.ChoiceSteps.{node_value, value_reached, step_value, step_values, value_at};
 
 use crate::token::Operator;
 use crate::tree::Node;
@@ -74,8 +74,8 @@ fn add_test(
     there: usize,
 ) -> Result<Option<usize>, AllocError>
     ensures { IfOk result (λ found. IfSome found (λ i. AddsSteps steps.old.items steps.new.items i (λ n.
-        choice (combined operator (Some (measured modulus n)) (Some bound))
-        (reached steps.old.items here n) (reached steps.old.items there n)))) }
+        choice (operator_value operator (Some (remainder_of modulus n)) (Some bound))
+        (value_reached steps.old.items here n) (value_reached steps.old.items there n)))) }
 {
     let Some(step) = test_of(operator, modulus, bound, here, there) else {
         return Ok(None)
@@ -150,7 +150,7 @@ impl Node {
 
 /// Whether `n`, or its remainder if the modulus isn't 0, is from `low` to `high`.
 fn lies_within(n: u64, modulus: u64, low: u64, high: u64) -> bool
-    ensures { result ≡ is_within low high (measured modulus n) }
+    ensures { result ≡ is_within low high (remainder_of modulus n) }
 {
     let x = if modulus == 0 { n } else { n % modulus };
     low <= x && x <= high
@@ -170,7 +170,7 @@ fn next_step(n: u64, modulus: u64, low: u64, high: u64, inside: usize, outside: 
 
 /// Runs the steps from index `start`, and returns the value at `n` that they reach.
 pub(crate) fn run(steps: &[Step], start: usize, n: u64) -> Option<u64>
-    ensures { result ≡ reached steps.now start n }
+    ensures { result ≡ value_reached steps.now start n }
 {
     let mut at = start;
     'steps: loop {

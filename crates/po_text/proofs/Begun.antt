@@ -1,18 +1,16 @@
 -- Where a form was begun, and which tokens may be added.
-use Rattle.std.proofs.Common.{◌≡◌, ◌≢◌, ℕ, ◌+◌, Bool, true, false, List, [], ◌∷◌}
-use Rattle.std.proofs.Common.{◌++◌, length, Option, Some, None, refl, subst, inl, inr}
-use Rattle.std.specs.Prelude.{if◌then◌else◌, ◌==◌, ◌⊎◌}
-use Rattle.std.specs.List.{Contains}
+use Rattle.po_text.proofs.Kit.{◌≡◌, ◌≢◌, ℕ, ◌+◌, Bool, true, false, List, [], ◌∷◌, ◌++◌, length, Option, Some, None}
+use Rattle.po_text.proofs.Kit.{refl, subst, inl, inr, if◌then◌else◌, ◌==◌, ◌⊎◌, Contains, Token, Context, Id, Plural}
+use Rattle.po_text.proofs.Kit.{Str, Number, Open, Close, Text, token_view, Stage, ContextWord, ContextText, IdWord}
+use Rattle.po_text.proofs.Kit.{IdText, FormWord, FormText, PluralWord, PluralText, IndexOpen, IndexNumber, IndexClose}
+use Rattle.po_text.proofs.Kit.{IndexedWord, IndexedText, key_text, stage_view, Draft, put_text, opens, opens_id}
 use Rattle.po_text.specs.declared.stages.Stage as code
 use Rattle.po_text.specs.declared.stages.Stage.TheVariants as stages
 use Rattle.po_text.specs.declared.lexer.Token as code_token
 use Rattle.po_text.specs.declared.lexer.Token.TheVariants as kinds
-use Rattle.po_text.specs.Spelling.{Token, Context, Id, Plural, Str, Number, Open, Close, Text}
-use Rattle.po_text.specs.Lexing.{token_view, IsLawfulToken}
-use Rattle.po_text.specs.Stages.{Stage, ContextWord, ContextText, IdWord, IdText, FormWord}
-use Rattle.po_text.specs.Stages.{FormText, PluralWord, PluralText, IndexOpen, IndexNumber, IndexClose}
-use Rattle.po_text.specs.Stages.{IndexedWord, IndexedText, step, key_text, stage_view}
-use Rattle.po_text.specs.Building.{Draft, put, put_text, opens, opens_id}
+use Rattle.po_text.specs.Lexing.{IsLawfulToken}
+use Rattle.po_text.specs.Stages.{step}
+use Rattle.po_text.specs.Building.{put}
 use Rattle.po_text.specs.Buffers.{HasForm, CanAddText, CanAdd}
 use Rattle.po_text.specs.Parsing.{is_opening}
 use Rattle.po_text.proofs.Completes.{four_from}
@@ -28,20 +26,11 @@ key_free bytes p q e m = let four = four_from bytes m in let none : key_text byt
 text_can : (p : code.Stage) (n k : ℕ) (bytes : List ℕ) (q : Stage) (d : Draft) → step (stage_view p n) (Text bytes)
     ≡ Some q → HasForm (stage_view p n) d → CanAddText (stage_view p k) bytes d
 unfolding step
-text_can stages.Start n k bytes q d e h = absurd (cc e)
 text_can stages.ContextWord n k bytes q d e h = key_free bytes ContextText q e
 text_can stages.ContextText n k bytes q d e h = key_free bytes ContextText q e
 text_can stages.IdWord n k bytes q d e h = key_free bytes IdText q e
 text_can stages.IdText n k bytes q d e h = key_free bytes IdText q e
-text_can stages.FormWord n k bytes q d e h = h
-text_can stages.FormText n k bytes q d e h = h
-text_can stages.PluralWord n k bytes q d e h = tt
-text_can stages.PluralText n k bytes q d e h = tt
-text_can stages.IndexOpen n k bytes q d e h = absurd (cc e)
-text_can stages.IndexNumber n k bytes q d e h = absurd (cc e)
-text_can stages.IndexClose n k bytes q d e h = absurd (cc e)
-text_can stages.IndexedWord n k bytes q d e h = h
-text_can stages.IndexedText n k bytes q d e h = h
+text_can _ n k bytes q d e h = first_of (assumption h, cc e, search)
 
 -- a token that is allowed here may be added
 pub can_add : (p : code.Stage) (n k : ℕ) (t : code_token.Token) (bytes : List ℕ) (q : Stage) (d : Draft)
@@ -145,6 +134,4 @@ opens_opening p t q n c e f = elim (opens_to p t (stage_view q n) c e f).1
 -- there no form needs to be
 pub opening_form : (q : code.Stage) (n : ℕ) (d : Draft) → is_opening q ≡ true → HasForm (stage_view q n) d
 opening_form stages.Start n d e = tt
-opening_form stages.ContextWord n d e = tt
-opening_form stages.IdWord n d e = tt
-opening_form _ n d e = absurd (cc e)
+opening_form _ n d e = first_of (cc e, search)

@@ -1,6 +1,5 @@
 -- Chains of steps, and of units.
-use Rattle.std.proofs.Common.{List, [], ◌∷◌, ◌++◌, sym, subst}
-use Rattle.byte_text.specs.Chain.{Chain}
+use Rattle.po_text.proofs.Kit.{List, [], ◌∷◌, ◌++◌, sym, subst, Chain}
 
 pub Chain-append : {A S : Type 0} (Step : A → S → S → Type 0) (xs ys : List A) (s m t : S) → Chain Step xs s m
     → Chain Step ys m t → Chain Step (xs ++ ys) s t

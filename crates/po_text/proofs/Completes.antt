@@ -1,16 +1,14 @@
 -- What the parser takes to the end of an entry is derived.
-use Rattle.std.proofs.Common.{◌≡◌, ◌≢◌, ℕ, zero, suc, ◌+◌, true, false, List, [], ◌∷◌, ◌++◌}
-use Rattle.std.proofs.Common.{Some, None, refl, sym, ap, ◌∙◌, subst, inl, inr, append_assoc, arith}
+use Rattle.po_text.proofs.Kit.{◌≡◌, ◌≢◌, ℕ, zero, suc, ◌+◌, true, false, List, [], ◌∷◌, ◌++◌, Some, None, refl, sym, ap}
+use Rattle.po_text.proofs.Kit.{◌∙◌, subst, inl, inr, append_assoc, arith, concat, flat_map, Contains, AllByRecursion}
+use Rattle.po_text.proofs.Kit.{Contains-append_cases, cases_Bool, cases_eq, ne_eqb, eq-eqb, Token, Context, Id, Plural}
+use Rattle.po_text.proofs.Kit.{Str, Number, Open, Close, Text, Strings, Part, PlainPart, PluralPart, Derivation, texts}
+use Rattle.po_text.proofs.Kit.{form_tokens, part_tokens, tokens_of, IsOneOrMore, IsKeyText, IsLawfulPart, IsLawfulEntry}
+use Rattle.po_text.proofs.Kit.{Stage, Start, ContextWord, ContextText, IdWord, IdText, FormWord, FormText, PluralWord}
+use Rattle.po_text.proofs.Kit.{PluralText, IndexOpen, IndexNumber, IndexClose, IndexedWord, IndexedText, IsBoundary}
+use Rattle.po_text.proofs.Kit.{has_four, key_text}
 use Rattle.std.specs.Prelude.{nat_eq}
-use Rattle.std.specs.List.{concat, flat_map, Contains, AllByRecursion}
-use Rattle.std.proofs.lemmas.List.Elements.{Contains-append_cases}
-use Rattle.std.proofs.lemmas.Bool.{cases_Bool, cases_eq, ne_eqb, eq-eqb}
-use Rattle.po_text.specs.Spelling.{Token, Context, Id, Plural, Str, Number, Open, Close, Text}
-use Rattle.po_text.specs.Entries.{Strings, Part, PlainPart, PluralPart, Derivation, texts, form_tokens}
-use Rattle.po_text.specs.Entries.{part_tokens, tokens_of, IsOneOrMore, IsKeyText, IsLawfulPart, IsLawfulEntry}
-use Rattle.po_text.specs.Stages.{Stage, Start, ContextWord, ContextText, IdWord, IdText, FormWord}
-use Rattle.po_text.specs.Stages.{FormText, PluralWord, PluralText, IndexOpen, IndexNumber, IndexClose, IndexedWord}
-use Rattle.po_text.specs.Stages.{IndexedText, IsBoundary, step, has_four, key_text}
+use Rattle.po_text.specs.Stages.{step}
 use Rattle.po_text.proofs.Grammar.{run, run-none}
 
 abbrev pub NoFour : Strings → Type 0

@@ -1,28 +1,20 @@
 -- A draft comes from at most one entry.
-use Rattle.std.proofs.Common.{◌≡◌, ℕ, ◌+◌, List, [], ◌∷◌, ◌++◌, map, length, refl, sym, ap, ◌∙◌, arith}
-use Rattle.std.specs.List.{concat, AllByRecursion}
-use Rattle.std.proofs.lemmas.List.{append-nil, map-append}
-use Rattle.po_text.specs.Entries.{Entry}
-use Rattle.po_text.specs.Building.{Draft, draft_of, offsets}
+use Rattle.po_text.proofs.Kit.{◌≡◌, ℕ, ◌+◌, List, [], ◌∷◌, ◌++◌, map, length, refl, sym, ap, ◌∙◌, arith, concat}
+use Rattle.po_text.proofs.Kit.{AllByRecursion, append-nil, map-append, Entry, Draft, draft_of, offsets}
 
 append_one : {A : Type 0} (xs ys us vs : List A) → xs ++ us ≡ ys ++ vs → length xs ≡ length ys → (xs ≡ ys) × (us ≡ vs)
 append_one [] [] us vs e l = (refl, e)
-append_one [] (y ∷ ys) us vs e l = absurd (omega (arith, l))
-append_one (x ∷ xs) [] us vs e l = absurd (omega (arith, l))
 append_one (x ∷ xs) (y ∷ ys) us vs e l =
     let head : x ≡ y = cc e in
     let h = append_one xs ys us vs (cc e) (omega (arith, l)) in
     let rest = h.0 in
     (cc (head, rest), h.1)
+append_one _ _ us vs e l = absurd (omega (arith, l))
 
 pub forms_one : (k : ℕ) (fs gs : List (List ℕ)) → concat fs ≡ concat gs → offsets k fs ≡ offsets k gs → fs ≡ gs
 forms_one k [] [] e o = refl
-forms_one k [] (g ∷ gs) e o = absurd (cc o)
-forms_one k (f ∷ fs) [] e o = absurd (cc o)
 forms_one k (f ∷ []) (g ∷ []) e o = let same : f ≡ g = sym (append-nil f) ∙ e
     ∙ append-nil g in ap (λ (x : List ℕ). x ∷ []) same
-forms_one k (f ∷ []) (g ∷ g' ∷ gs) e o = absurd (cc o)
-forms_one k (f ∷ f' ∷ fs) (g ∷ []) e o = absurd (cc o)
 forms_one k (f ∷ f' ∷ fs) (g ∷ g' ∷ gs) e o =
     let next : k + length f ≡ k + length g = cc o in
     let len : length f ≡ length g = omega (arith, next) in
@@ -30,6 +22,7 @@ forms_one k (f ∷ f' ∷ fs) (g ∷ g' ∷ gs) e o =
     let same = cut.0 in
     let rest = forms_one (k + length f) (f' ∷ fs) (g' ∷ gs) cut.1 (cc (o, next)) in
     cc (same, rest)
+forms_one k _ _ e o = absurd (cc o)
 
 -- entries with equal fields are equal
 pub same_entry : (e e' : Entry) → e.line ≡ e'.line → e.form_line ≡ e'.form_line → e.fuzzy ≡ e'.fuzzy → e.c_format
@@ -146,12 +139,11 @@ draft_one e e' same =
 
 pub drafts_one : (es fs : List Entry) → map draft_of es ≡ map draft_of fs → es ≡ fs
 drafts_one [] [] e = refl
-drafts_one [] (f ∷ fs) e = absurd (cc e)
-drafts_one (x ∷ es) [] e = absurd (cc e)
 drafts_one (x ∷ es) (y ∷ fs) e =
     let head = draft_one x y (cc e) in
     let tail = drafts_one es fs (cc e) in
     cc (head, tail)
+drafts_one _ _ e = absurd (cc e)
 
 -- if some drafts come from entries, so does the last one
 pub split_last : (P : Entry → Type 0) (done : List Draft) (d : Draft) (es : List Entry) → AllByRecursion P es → done

@@ -1,18 +1,16 @@
 -- The end of a text as it gets shorter, and the parts that are borrowed from it.
-use Rattle.std.proofs.Common.{◌≡◌, ℕ, ◌+◌, ◌<◌, Bool, false, List, [], ◌∷◌, ◌++◌, length, get_or, drop, sym, ap}
-use Rattle.std.proofs.Common.{◌∙◌, subst, arith, append_assoc, length-append, add-zero}
-use Rattle.std.specs.List.{Contains}
+use Rattle.po_text.proofs.Kit.{◌≡◌, ℕ, ◌+◌, ◌<◌, Bool, false, List, [], ◌∷◌, ◌++◌, length, get_or, drop, sym, ap, ◌∙◌}
+use Rattle.po_text.proofs.Kit.{subst, arith, append_assoc, length-append, Contains, Contains-append_left}
+use Rattle.po_text.proofs.Kit.{Contains-append_right, Chain, StringUnit, Plain, Escape, Octal, UnitAt, Piece, White}
+use Rattle.po_text.proofs.Kit.{Comment, Word, OpenBracket, CloseBracket, Quoted, PieceAt}
+use Rattle.std.proofs.Common.{add-zero}
 use Rattle.std.specs.Str.{IsUtf8, is_utf8, IsCharBoundary}
 use Rattle.std.proofs.Math.Seq.{take-append_seam, drop-append-add}
 use Rattle.std.proofs.lemmas.List.{get_or-append-add}
-use Rattle.std.proofs.lemmas.List.Elements.{Contains-append_left, Contains-append_right}
 use Rattle.std.proofs.lemmas.Str.{IsCharBoundary-after_ascii, IsCharBoundary-before_ascii, IsUtf8-drop, IsUtf8-take}
 use Rattle.std.proofs.lemmas.Str.{IsUtf8-from_is_utf8, is_utf8-from_IsUtf8}
-use Rattle.byte_text.specs.Chain.{Chain}
 use Rattle.po_text.specs.Ends.{EndsText, IsPart}
 use Rattle.po_text.specs.Lexing.{TakesToken}
-use Rattle.po_text.specs.Spelling.{StringUnit, Plain, Escape, Octal, UnitAt, Piece, White, Comment, Word, OpenBracket}
-use Rattle.po_text.specs.Spelling.{CloseBracket, Quoted, PieceAt}
 use Rattle.po_text.specs.declared.lexer.Token as code
 
 -- ---- what follows a part

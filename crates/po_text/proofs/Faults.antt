@@ -1,20 +1,16 @@
 -- The grammar faults, from what was built.
-use Rattle.std.proofs.Common.{◌≡◌, ℕ, ◌+◌, List, [], ◌∷◌, ◌++◌, Option, Some}
-use Rattle.std.proofs.Common.{None, refl, sym, ap, ◌∙◌, subst, inl, inr, append_assoc}
-use Rattle.std.specs.Prelude.{◌⊎◌, nat_eq}
-use Rattle.std.specs.Option.{option_map}
-use Rattle.std.specs.List.{Contains}
-use Rattle.std.proofs.lemmas.List.{map-append, append-nil}
-use Rattle.std.proofs.lemmas.Bool.{cases_Bool, eqb-true}
+use Rattle.po_text.proofs.Kit.{◌≡◌, ℕ, ◌+◌, List, [], ◌∷◌, ◌++◌, Option, Some, None, refl, sym, ap, ◌∙◌, subst, inl}
+use Rattle.po_text.proofs.Kit.{inr, append_assoc, ◌⊎◌, option_map, Contains, map-append, append-nil, cases_Bool}
+use Rattle.po_text.proofs.Kit.{eqb-true, BadOrder, Token, Context, Id, Plural, Str, Number, Open, Close, Text, Mark}
+use Rattle.po_text.proofs.Kit.{Lexeme, Strings, texts, all_tokens, IsOpenList, ClosesBy, ClosesAt, Stage, Start}
+use Rattle.po_text.proofs.Kit.{ContextWord, ContextText, IdWord, IdText, FormWord, FormText, PluralWord, PluralText}
+use Rattle.po_text.proofs.Kit.{IndexOpen, IndexNumber, IndexClose, IndexedWord, IndexedText, IsBoundary, has_four}
+use Rattle.po_text.proofs.Kit.{key_text, begin, no_flags, State, at_state, opens, opens_id, after, start}
+use Rattle.std.specs.Prelude.{nat_eq}
 use Rattle.std.proofs.lemmas.Map.Views.{Contains-from_any}
-use Rattle.po_text.specs.declared.fault.PoKind.TheVariants.{BadOrder}
-use Rattle.po_text.specs.Spelling.{Token, Context, Id, Plural, Str, Number, Open, Close, Text, Mark, Lexeme}
-use Rattle.po_text.specs.Entries.{Strings, texts, all_tokens, IsOpenList, IsKeyword}
-use Rattle.po_text.specs.Entries.{PutsFour, IsIndexStage, ClosesBy, ClosesAt, EndsEarly}
-use Rattle.po_text.specs.Stages.{Stage, Start, ContextWord, ContextText, IdWord, IdText, FormWord}
-use Rattle.po_text.specs.Stages.{FormText, PluralWord, PluralText, IndexOpen, IndexNumber, IndexClose, IndexedWord}
-use Rattle.po_text.specs.Stages.{IndexedText, IsBoundary, step, has_four, key_text}
-use Rattle.po_text.specs.Building.{begin, no_flags, State, at_state, opens, opens_id, after, feed, feeds, start}
+use Rattle.po_text.specs.Entries.{IsKeyword, PutsFour, IsIndexStage, EndsEarly}
+use Rattle.po_text.specs.Stages.{step}
+use Rattle.po_text.specs.Building.{feed, feeds}
 use Rattle.po_text.specs.Parsing.{EndsOn, refusal, key_refusal, number_refusal}
 use Rattle.po_text.proofs.Grammar.{run, run-none, run-append, live_front, closes}
 use Rattle.po_text.proofs.OpenLists.{taken_open}
@@ -65,45 +61,33 @@ key_to b p q e = elim (cases_Bool (has_four b)) [
 new_key : (before : List Lexeme) (l : Lexeme) → IsKeyword l.token → BehindKey (before ++ (l ∷ [])) l.line
 new_key before l kw = (before, l, [], [], refl, kw, refl, refl)
 
+leads : (before : List Lexeme) (p q : Stage) (k : ℕ) → p ≡ q → Behind before p k → Behind before q k
+leads before p q k e h = subst (λ (x : Stage). Behind before x k) e h
+
 text_behind : (before : List Lexeme) (p q : Stage) (k : ℕ) (l : Lexeme) (b : List ℕ) → l.token ≡ Text b
     → step p (Text b) ≡ Some q → Behind before p k → Behind (before ++ (l ∷ [])) q k
 unfolding step
-text_behind before ContextWord q k l b f e h = subst (λ (x : Stage). Behind (before ++ (l ∷ [])) x k)
-    (key_to b ContextText q e) (more_key before k l b f h)
-text_behind before ContextText q k l b f e h = subst (λ (x : Stage). Behind (before ++ (l ∷ [])) x k)
-    (key_to b ContextText q e) (more_key before k l b f h)
-text_behind before IdWord q k l b f e h = subst (λ (x : Stage). Behind (before ++ (l ∷ [])) x k) (key_to b IdText q e)
-    (more_key before k l b f h)
-text_behind before IdText q k l b f e h = subst (λ (x : Stage). Behind (before ++ (l ∷ [])) x k) (key_to b IdText q e)
-    (more_key before k l b f h)
-text_behind before FormWord q k l b f e h = subst (λ (x : Stage). Behind (before ++ (l ∷ [])) x k)
-    (let s : FormText ≡ q = cc e in s) tt
-text_behind before FormText q k l b f e h = subst (λ (x : Stage). Behind (before ++ (l ∷ [])) x k)
-    (let s : FormText ≡ q = cc e in s) tt
-text_behind before PluralWord q k l b f e h = subst (λ (x : Stage). Behind (before ++ (l ∷ [])) x k)
-    (let s : PluralText ≡ q = cc e in s) tt
-text_behind before PluralText q k l b f e h = subst (λ (x : Stage). Behind (before ++ (l ∷ [])) x k)
-    (let s : PluralText ≡ q = cc e in s) tt
-text_behind before (IndexedWord n) q k l b f e h = subst (λ (x : Stage). Behind (before ++ (l ∷ [])) x k)
-    (let s : IndexedText n ≡ q = cc e in s) tt
-text_behind before (IndexedText n) q k l b f e h = subst (λ (x : Stage). Behind (before ++ (l ∷ [])) x k)
-    (let s : IndexedText n ≡ q = cc e in s) tt
+text_behind before ContextWord q k l b f e h = leads _ _ q k (key_to b ContextText q e) (more_key before k l b f h)
+text_behind before ContextText q k l b f e h = leads _ _ q k (key_to b ContextText q e) (more_key before k l b f h)
+text_behind before IdWord q k l b f e h = leads _ _ q k (key_to b IdText q e) (more_key before k l b f h)
+text_behind before IdText q k l b f e h = leads _ _ q k (key_to b IdText q e) (more_key before k l b f h)
+text_behind before FormWord q k l b f e h = leads _ FormText q k (cc e) tt
+text_behind before FormText q k l b f e h = leads _ FormText q k (cc e) tt
+text_behind before PluralWord q k l b f e h = leads _ PluralText q k (cc e) tt
+text_behind before PluralText q k l b f e h = leads _ PluralText q k (cc e) tt
+text_behind before (IndexedWord n) q k l b f e h = leads _ (IndexedText n) q k (cc e) tt
+text_behind before (IndexedText n) q k l b f e h = leads _ (IndexedText n) q k (cc e) tt
 text_behind before p q k l b f e h = absurd (cc e)
 
 context_to : (p q : Stage) → step p Context ≡ Some q → q ≡ ContextWord
 unfolding step
 context_to Start q e = sym (cc e)
-context_to FormText q e = sym (cc e)
-context_to (IndexedText k) q e = sym (cc e)
-context_to p q e = absurd (cc e)
+context_to _ q e = sym (cc e)
 
 id_to : (p q : Stage) → step p Id ≡ Some q → q ≡ IdWord
 unfolding step
 id_to Start q e = sym (cc e)
-id_to FormText q e = sym (cc e)
-id_to (IndexedText k) q e = sym (cc e)
-id_to ContextText q e = sym (cc e)
-id_to p q e = absurd (cc e)
+id_to _ q e = sym (cc e)
 
 open_to : (p q : Stage) → step p Open ≡ Some q → (k : ℕ) × (q ≡ IndexNumber k)
 unfolding step
@@ -174,14 +158,8 @@ id_keyword (Some c) s marks line q = (refl, refl)
 after_is : (s : State) (marks : List Mark) (line : ℕ) (t : Token) (q : Stage)
     → ((after (opens t s.stage) s marks line t q).stage ≡ q)
     × ((after (opens t s.stage) s marks line t q).keyword ≡ line_after t line s.keyword)
-after_is s marks line Context q = (refl, refl)
 after_is s marks line Id q = id_keyword (opens_id s.stage) s marks line q
-after_is s marks line (Text b) q = (refl, refl)
-after_is s marks line Open q = (refl, refl)
-after_is s marks line Str q = (refl, refl)
-after_is s marks line Plural q = (refl, refl)
-after_is s marks line Close q = (refl, refl)
-after_is s marks line (Number n) q = (refl, refl)
+after_is s marks line _ q = (refl, refl)
 
 some_after : (s : State) (marks : List Mark) (line : ℕ) (t : Token) (s' : State) (o : Option Stage) → step s.stage t ≡ o
     → option_map (λ (p : Stage). after (opens t s.stage) s marks line t p) o ≡ Some s' → (q : Stage)
@@ -232,10 +210,7 @@ IsKeyStage _ = ⊥
 stays_key : (p : Stage) (b : List ℕ) (o : Option Stage) → IsKeyStage p → step p (Text b) ≡ o → (o ≡ None)
     ⊎ ((q : Stage) × (o ≡ Some q) × IsKeyStage q)
 unfolding step
-stays_key ContextWord b None h e = inl refl
-stays_key ContextText b None h e = inl refl
-stays_key IdWord b None h e = inl refl
-stays_key IdText b None h e = inl refl
+stays_key p b None h e = inl refl
 stays_key ContextWord b (Some q) h e = inr (q, refl, subst (λ (x : Stage). IsKeyStage x) (key_to b ContextText q e) tt)
 stays_key ContextText b (Some q) h e = inr (q, refl, subst (λ (x : Stage). IsKeyStage x) (key_to b ContextText q e) tt)
 stays_key IdWord b (Some q) h e = inr (q, refl, subst (λ (x : Stage). IsKeyStage x) (key_to b IdText q e) tt)
@@ -354,47 +329,24 @@ text_closes before x b ContextText k at h t e = puts_four before x k b ContextTe
 text_closes before x b IdWord k at h t e = puts_four before x k b IdText h t e
 text_closes before x b IdText k at h t e = puts_four before x k b IdText h t e
 text_closes before x b Start k at h t e = text_order before x b Start at (λ i. i) t
-text_closes before x b FormWord k at h t e = absurd (cc e)
-text_closes before x b FormText k at h t e = absurd (cc e)
-text_closes before x b PluralWord k at h t e = absurd (cc e)
-text_closes before x b PluralText k at h t e = absurd (cc e)
 text_closes before x b (IndexOpen n) k at h t e = text_order before x b (IndexOpen n) at (λ i. i) t
 text_closes before x b (IndexNumber n) k at h t e = text_order before x b (IndexNumber n) at (λ i. i) t
 text_closes before x b (IndexClose n) k at h t e = text_order before x b (IndexClose n) at (λ i. i) t
-text_closes before x b (IndexedWord n) k at h t e = absurd (cc e)
-text_closes before x b (IndexedText n) k at h t e = absurd (cc e)
+text_closes before x b _ k at h t e = absurd (cc e)
 
 number_closes : (before : List Lexeme) (x : Lexeme) (m : ℕ) (p : Stage) (k : ℕ) → run (Some Start) (all_tokens before)
     ≡ Some p → Behind before p k → x.token ≡ Number m → ClosesBy (number_refusal p x.line).kind before x
     (number_refusal p x.line).line
 number_closes before x m (IndexNumber n) k at (front, bracket, is, open_is) t =
     (record { front = front; bracket = bracket; split = is; bracket_is = open_is; number = (m, t) }, refl)
-number_closes before x m Start k at h t = number_order before x m Start at (λ k e. absurd (cc e)) t
-number_closes before x m ContextWord k at h t = number_order before x m ContextWord at (λ k e. absurd (cc e)) t
-number_closes before x m ContextText k at h t = number_order before x m ContextText at (λ k e. absurd (cc e)) t
-number_closes before x m IdWord k at h t = number_order before x m IdWord at (λ k e. absurd (cc e)) t
-number_closes before x m IdText k at h t = number_order before x m IdText at (λ k e. absurd (cc e)) t
-number_closes before x m FormWord k at h t = number_order before x m FormWord at (λ k e. absurd (cc e)) t
-number_closes before x m FormText k at h t = number_order before x m FormText at (λ k e. absurd (cc e)) t
-number_closes before x m PluralWord k at h t = number_order before x m PluralWord at (λ k e. absurd (cc e)) t
-number_closes before x m PluralText k at h t = number_order before x m PluralText at (λ k e. absurd (cc e)) t
-number_closes before x m (IndexOpen n) k at h t = number_order before x m (IndexOpen n) at (λ k e. absurd (cc e)) t
-number_closes before x m (IndexClose n) k at h t = number_order before x m (IndexClose n) at (λ k e. absurd (cc e)) t
-number_closes before x m (IndexedWord n) k at h t = number_order before x m (IndexedWord n) at (λ k e. absurd (cc e)) t
-number_closes before x m (IndexedText n) k at h t = number_order before x m (IndexedText n) at (λ k e. absurd (cc e)) t
+number_closes before x m p k at h t = number_order before x m p at (λ k e. absurd (cc e)) t
 
 token_closes : (before : List Lexeme) (x : Lexeme) (t : Token) (p : Stage) (k : ℕ)
     → run (Some Start) (all_tokens before) ≡ Some p → Behind before p k → x.token ≡ t → step p t ≡ None
     → ClosesBy (refusal t p x.line k).kind before x (refusal t p x.line k).line
 token_closes before x (Text b) p k at h t e = text_closes before x b p k at h t e
 token_closes before x (Number n) p k at h t e = number_closes before x n p k at h t
-token_closes before x Context p k at h t e = other_order before x (λ b f. absurd (cc (t, f)))
-    (λ n f. absurd (cc (t, f)))
-token_closes before x Id p k at h t e = other_order before x (λ b f. absurd (cc (t, f))) (λ n f. absurd (cc (t, f)))
-token_closes before x Plural p k at h t e = other_order before x (λ b f. absurd (cc (t, f))) (λ n f. absurd (cc (t, f)))
-token_closes before x Str p k at h t e = other_order before x (λ b f. absurd (cc (t, f))) (λ n f. absurd (cc (t, f)))
-token_closes before x Open p k at h t e = other_order before x (λ b f. absurd (cc (t, f))) (λ n f. absurd (cc (t, f)))
-token_closes before x Close p k at h t e = other_order before x (λ b f. absurd (cc (t, f))) (λ n f. absurd (cc (t, f)))
+token_closes before x _ p k at h t e = other_order before x (λ b f. absurd (cc (t, f))) (λ n f. absurd (cc (t, f)))
 
 -- a token that isn't allowed is the grammar fault
 pub refused_closes : (found more : List Lexeme) (x : Lexeme) (s : State) → feeds (Some start) found ≡ Some s

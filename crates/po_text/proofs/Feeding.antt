@@ -1,28 +1,23 @@
 -- The entries built from the lexemes of derived entries are those entries.
-use Rattle.std.proofs.Common.{◌≡◌, ℕ, ◌+◌, false, List, [], ◌∷◌, ◌++◌, map, length, Option}
-use Rattle.std.proofs.Common.{Some, None, refl, sym, ap, ◌∙◌, subst, append_assoc, length-append, zero-add}
-use Rattle.std.specs.Option.{option_map}
-use Rattle.std.specs.List.{concat, flat_map, Contains, AllByRecursion}
-use Rattle.std.proofs.lemmas.List.{append-nil}
-use Rattle.po_text.specs.declared.flags.Flags.{Flags}
-use Rattle.po_text.specs.declared.buffer.Lines.{Lines}
-use Rattle.byte_text.specs.Chain.{Chain}
-use Rattle.po_text.specs.Spelling.{Token, Context, Id, Plural, Str, Number, Open, Close, Text, Mark, Lexeme}
-use Rattle.po_text.specs.Entries.{Strings, Part, PlainPart, PluralPart, Derivation, texts}
-use Rattle.po_text.specs.Entries.{context_tokens, form_tokens, part_tokens, tokens_of, IsOneOrMore, IsKeyText}
-use Rattle.po_text.specs.Entries.{IsLawfulContext, IsLawfulPart, IsLawfulEntry, Entry, joined_option, plural_of}
-use Rattle.po_text.specs.Entries.{forms_of, entry_of, EntryAt, Derives, all_tokens, first_form_line, is_form_word}
-use Rattle.po_text.specs.Stages.{Stage, Start, ContextWord, ContextText, IdWord, IdText, FormWord}
-use Rattle.po_text.specs.Stages.{FormText, PluralWord, PluralText, IndexOpen, IndexNumber, IndexClose, IndexedWord}
-use Rattle.po_text.specs.Stages.{IndexedText, IsBoundary, step, has_four, key_text}
-use Rattle.po_text.specs.Building.{flags_over, no_flags, Draft, offsets, draft_of, begin, grown, add_context}
-use Rattle.po_text.specs.Building.{add_id, add_plural, add_form, new_plural, new_form, put_text, State, at_state}
-use Rattle.po_text.specs.Building.{drafts_at, opens, after, feed_at, feed, feeds, start}
+use Rattle.po_text.proofs.Kit.{◌≡◌, ℕ, ◌+◌, false, List, [], ◌∷◌, ◌++◌, map, length, Option, Some, None, refl, sym, ap}
+use Rattle.po_text.proofs.Kit.{◌∙◌, subst, append_assoc, length-append, option_map, concat, flat_map, Contains}
+use Rattle.po_text.proofs.Kit.{AllByRecursion, append-nil, Flags, Lines, Chain, Token, Context, Id, Plural, Str, Number}
+use Rattle.po_text.proofs.Kit.{Open, Close, Text, Mark, Lexeme, Strings, Part, PlainPart, PluralPart, Derivation, texts}
+use Rattle.po_text.proofs.Kit.{context_tokens, form_tokens, part_tokens, tokens_of, IsOneOrMore, IsKeyText}
+use Rattle.po_text.proofs.Kit.{IsLawfulPart, IsLawfulEntry, Entry, plural_of, forms_of, EntryAt, Derives, all_tokens}
+use Rattle.po_text.proofs.Kit.{Stage, Start, ContextWord, ContextText, IdWord, IdText, FormWord, FormText, PluralWord}
+use Rattle.po_text.proofs.Kit.{PluralText, IndexOpen, IndexNumber, IndexClose, IndexedWord, IndexedText, IsBoundary}
+use Rattle.po_text.proofs.Kit.{has_four, key_text, flags_over, no_flags, Draft, offsets, draft_of, begin, new_form}
+use Rattle.po_text.proofs.Kit.{put_text, State, at_state, drafts_at, opens, after, start, Contains-append_left}
+use Rattle.po_text.proofs.Kit.{Contains-append_right, eq-eqb}
+use Rattle.std.proofs.Common.{zero-add}
+use Rattle.po_text.specs.Entries.{IsLawfulContext, joined_option, entry_of, first_form_line, is_form_word}
+use Rattle.po_text.specs.Stages.{step}
+use Rattle.po_text.specs.Building.{with_bytes, add_context, add_id, add_plural, add_form, new_plural, feed_at, feed}
+use Rattle.po_text.specs.Building.{feeds}
 use Rattle.po_text.proofs.FlagLemmas.{flags_are, flags_over-append}
 use Rattle.po_text.proofs.Completes.{derived}
 use Rattle.po_text.proofs.Grammar.{run, no_four_here}
-use Rattle.std.proofs.lemmas.List.Elements.{Contains-append_left, Contains-append_right}
-use Rattle.std.proofs.lemmas.Bool.{eq-eqb}
 
 -- ---- feeding
 
@@ -99,13 +94,12 @@ texts_feed : (p : Stage) (add : Draft → List ℕ → Draft) (Good : List ℕ �
     → feeds (Some (at_state p done d f k)) ls ≡ Some (at_state p done (add d (concat parts)) (flags_through f ls) k)
 texts_feed p add Good a adder [] [] done d f k e good = ap (λ (x : Draft). Some (at_state p done x f k))
     (sym (adder.nil d))
-texts_feed p add Good a adder [] (b ∷ parts) done d f k e good = absurd (cc e)
-texts_feed p add Good a adder (l ∷ ls) [] done d f k e good = absurd (cc e)
 texts_feed p add Good a adder (l ∷ ls) (b ∷ parts) done d f k e good =
     one_text p p add Good a l ls b done d f k (cc e) good.0
     ∙ texts_feed p add Good a adder ls parts done (add d b) (flags_over f l.marks) k (cc e) good.1
     ∙ ap (λ (x : Draft). Some (at_state p done x (flags_through (flags_over f l.marks) ls) k))
     (adder.more d b (concat parts))
+texts_feed p add Good a adder _ _ done d f k e good = absurd (cc e)
 
 some_feed : (p q : Stage) (add : Draft → List ℕ → Draft) (Good : List ℕ → Type 0) → Adds p q add Good
     → Adds q q add Good → IsAdder add → (ls : List Lexeme) (parts : Strings) (done : List Draft) (d : Draft) (f : Flags)
@@ -137,11 +131,11 @@ no_fours (b ∷ parts) h = (
       parts (λ (m : Contains (concat parts) 4). h (Contains-append_right b (concat parts) 4 m)),
 )
 
-grown_nil : (o : Option (List ℕ)) → grown o [] ≡ o
+grown_nil : (o : Option (List ℕ)) → with_bytes o [] ≡ o
 grown_nil None = refl
 grown_nil (Some a) = ap Some (append-nil a)
 
-grown_more : (o : Option (List ℕ)) (a b : List ℕ) → grown (grown o a) b ≡ grown o (a ++ b)
+grown_more : (o : Option (List ℕ)) (a b : List ℕ) → with_bytes (with_bytes o a) b ≡ with_bytes o (a ++ b)
 grown_more None a b = refl
 grown_more (Some o) a b = ap Some (append_assoc o a b)
 
@@ -325,9 +319,7 @@ form_feed k form (o ∷ n ∷ c ∷ ls) more done d f w e some =
     ∙ ap (λ (x : Option State). feeds x more) (some_feed (IndexedWord k) (IndexedText k) add_form Anything
     (adds_indexed_word k) (adds_indexed k) form_adder ls form done d (flags_through f (o ∷ n ∷ c ∷ [])) w (cc e)
     some (every form))
-form_feed k form [] more done d f w e some = absurd (cc e)
-form_feed k form (o ∷ []) more done d f w e some = absurd (cc e)
-form_feed k form (o ∷ n ∷ []) more done d f w e some = absurd (cc e)
+form_feed k form _ more done d f w e some = absurd (cc e)
 
 -- the draft with these lines, and with these forms after its own
 abbrev with_forms : Lines → Draft → List (List ℕ) → Draft
@@ -372,8 +364,6 @@ forms_feed k [] [] done d f w e all = (
   ap
       (λ (x : Draft). Some (at_state (IndexedText k) done x f w)) (sym (with_nil d)),
 )
-forms_feed k [] (l ∷ ls) done d f w e all = absurd (cc e)
-forms_feed k (form ∷ forms) [] done d f w e all = absurd (cc e)
 forms_feed k (form ∷ forms) (l ∷ ls) done d f w e all =
     let (us, bs, is, front, back) = split_tokens ls (Open ∷ Number (k + 1) ∷ Close ∷ texts form)
     (form_tokens (k + 1 + 1) forms) (cc e) in
@@ -388,6 +378,7 @@ forms_feed k (form ∷ forms) (l ∷ ls) done d f w e all =
     (sym (flags_through-append (flags_over f l.marks) us bs)
     ∙ ap (λ (x : List Lexeme). flags_through (flags_over f l.marks) x) (sym is))
     (ends_from done _ _ _ _ (first ∙ second) rest)
+forms_feed k _ _ done d f w e all = absurd (cc e)
 
 -- the draft with this part, whose first `msgstr` is on this line
 abbrev with_part : ℕ → Draft → Part → Draft
@@ -519,16 +510,12 @@ id_feed id part ls done line flags context f w e key lawful =
 opening_id : (p : Stage) → IsBoundary p → (step p Id ≡ Some IdWord) × (opens Id p ≡ Some None)
 unfolding step
 opening_id Start h = (refl, refl)
-opening_id FormText h = (refl, refl)
-opening_id (IndexedText k) h = (refl, refl)
-opening_id _ h = absurd h
+opening_id _ h = search
 
 opening_context : (p : Stage) → IsBoundary p → step p Context ≡ Some ContextWord
 unfolding step
 opening_context Start h = refl
-opening_context FormText h = refl
-opening_context (IndexedText k) h = refl
-opening_context _ h = absurd h
+opening_context _ h = search
 
 -- the keyword that opens an entry
 open_with_id : (p : Stage) (done : List Draft) (d : Draft) (f : Flags) (k : ℕ) (marks : List Mark) (line : ℕ)

@@ -1,17 +1,14 @@
 -- Flags, mark by mark, and the words of a flag line.
-use Rattle.std.proofs.Common.{◌≡◌, ℕ, Bool, true, false, not, List, [], ◌∷◌, ◌++◌}
-use Rattle.std.proofs.Common.{take, drop, reverse, refl, sym, ap, ◌∙◌, inl, inr, one-add}
-use Rattle.std.proofs.Common.{map}
-use Rattle.std.specs.List.{list_any, slice_split, prefix_len, take_while}
+use Rattle.po_text.proofs.Kit.{◌≡◌, ℕ, Bool, true, false, List, [], ◌∷◌, ◌++◌, take, drop, refl, sym, ap, ◌∙◌, inl, inr}
+use Rattle.po_text.proofs.Kit.{one-add, map, prefix_len, take_while, Flags, Mark, flags_over, no_flags, cases_Bool}
+use Rattle.std.proofs.Common.{not, reverse}
+use Rattle.std.specs.List.{list_any, slice_split}
 use Rattle.std.proofs.lemmas.List.{reverse-append, reverse-reverse}
-use Rattle.std.proofs.lemmas.List.Sums.{fold-append}
-use Rattle.std.proofs.lemmas.List.Sums.{take_while-cons}
-use Rattle.po_text.specs.declared.flags.Flags.{Flags}
-use Rattle.po_text.specs.Spelling.{Mark, Fuzzy, CFormat, Flag, Clear, flag_mark, is_separator}
+use Rattle.std.proofs.lemmas.List.Sums.{fold-append, take_while-cons}
+use Rattle.po_text.specs.Spelling.{Fuzzy, CFormat, Flag, Clear, flag_mark, is_separator}
 use Rattle.po_text.specs.Entries.{mark_eq, is_flagged, formats_after, formats_of}
-use Rattle.po_text.specs.Building.{fuzzy_of, c_format_of, flags_over, no_flags}
+use Rattle.po_text.specs.Building.{fuzzy_of, c_format_of}
 use Rattle.po_text.specs.Lexing.{is_no_separator}
-use Rattle.std.proofs.lemmas.Bool.{cases_Bool}
 
 -- a mark that cancels no flags
 abbrev is_no_clear : Mark → Bool
@@ -20,16 +17,14 @@ is_no_clear mark = not (mark_eq Clear mark)
 fuzzy_of-append : (b : Bool) (xs ys : List Mark) → fuzzy_of b (xs ++ ys) ≡ fuzzy_of (fuzzy_of b xs) ys
 fuzzy_of-append b [] ys = refl
 fuzzy_of-append b (Fuzzy ∷ xs) ys = fuzzy_of-append true xs ys
-fuzzy_of-append b (CFormat ∷ xs) ys = fuzzy_of-append b xs ys
-fuzzy_of-append b (Flag word ∷ xs) ys = fuzzy_of-append b xs ys
 fuzzy_of-append b (Clear ∷ xs) ys = fuzzy_of-append false xs ys
+fuzzy_of-append b (_ ∷ xs) ys = fuzzy_of-append b xs ys
 
 c_format_of-append : (b : Bool) (xs ys : List Mark) → c_format_of b (xs ++ ys) ≡ c_format_of (c_format_of b xs) ys
 c_format_of-append b [] ys = refl
-c_format_of-append b (Fuzzy ∷ xs) ys = c_format_of-append b xs ys
-c_format_of-append b (Flag word ∷ xs) ys = c_format_of-append b xs ys
 c_format_of-append b (CFormat ∷ xs) ys = c_format_of-append true xs ys
 c_format_of-append b (Clear ∷ xs) ys = c_format_of-append false xs ys
+c_format_of-append b (_ ∷ xs) ys = c_format_of-append b xs ys
 
 pub flags_over-append : (f : Flags) (xs ys : List Mark) → flags_over f (xs ++ ys) ≡ flags_over (flags_over f xs) ys
 flags_over-append f xs ys = rw (

@@ -1,14 +1,9 @@
 -- Gaps, one piece at a time.
-use Rattle.std.proofs.Common.{◌≡◌, ◌≢◌, ℕ, ◌+◌, true, List, [], ◌∷◌, ◌++◌}
-use Rattle.std.proofs.Common.{length, refl, sym, ap, ◌∙◌, arith, append_assoc, length-append}
-use Rattle.std.specs.List.{AllByRecursion, take_while}
-use Rattle.std.proofs.lemmas.Bool.{ne_eqb}
-use Rattle.po_text.specs.Spelling.{Piece, White, Comment, Word, OpenBracket, CloseBracket, Quoted}
-use Rattle.po_text.specs.Spelling.{PieceAt, is_white, is_not_line_end, line_of, comment_marks, Mark}
-use Rattle.std.proofs.lemmas.List.{append-nil}
-use Rattle.po_text.specs.declared.flags.Flags.{Flags}
-use Rattle.po_text.specs.Building.{flags_over}
-use Rattle.po_text.specs.Lexing.{TakesGap, IsGapPiece, gap_marks}
+use Rattle.po_text.proofs.Kit.{◌≡◌, ◌≢◌, ℕ, ◌+◌, true, List, [], ◌∷◌, ◌++◌, length, refl, sym, ap, ◌∙◌, arith}
+use Rattle.po_text.proofs.Kit.{append_assoc, length-append, AllByRecursion, take_while, ne_eqb, Piece, White, Comment}
+use Rattle.po_text.proofs.Kit.{PieceAt, is_white, is_not_line_end, line_of, comment_marks, Mark, append-nil, Flags}
+use Rattle.po_text.proofs.Kit.{flags_over, gap_marks}
+use Rattle.po_text.specs.Lexing.{TakesGap, IsGapPiece}
 use Rattle.po_text.proofs.FlagLemmas.{flags_over-append}
 use Rattle.po_text.proofs.Chains.{Chain-append}
 
@@ -20,21 +15,13 @@ All-append P (x ∷ xs) ys p q = (p.0, All-append P xs ys p.1 q)
 pub line_of-append : (xs ys : List Piece) → line_of (xs ++ ys) + 1 ≡ line_of xs + line_of ys
 line_of-append [] ys = omega arith
 line_of-append (White b ∷ xs) ys = omega (arith, line_of-append xs ys)
-line_of-append (Comment after ∷ xs) ys = line_of-append xs ys
-line_of-append (Word bytes token ∷ xs) ys = line_of-append xs ys
-line_of-append (OpenBracket ∷ xs) ys = line_of-append xs ys
-line_of-append (CloseBracket ∷ xs) ys = line_of-append xs ys
-line_of-append (Quoted bytes ∷ xs) ys = line_of-append xs ys
+line_of-append (_ ∷ xs) ys = line_of-append xs ys
 
 gap_marks-append : (xs ys : List Piece) → gap_marks (xs ++ ys) ≡ gap_marks xs ++ gap_marks ys
 gap_marks-append [] ys = refl
-gap_marks-append (White b ∷ xs) ys = gap_marks-append xs ys
 gap_marks-append (Comment after ∷ xs) ys = ap (λ (m : List Mark). comment_marks after ++ m) (gap_marks-append xs ys)
     ∙ sym (append_assoc (comment_marks after) (gap_marks xs) (gap_marks ys))
-gap_marks-append (Word bytes token ∷ xs) ys = gap_marks-append xs ys
-gap_marks-append (OpenBracket ∷ xs) ys = gap_marks-append xs ys
-gap_marks-append (CloseBracket ∷ xs) ys = gap_marks-append xs ys
-gap_marks-append (Quoted bytes ∷ xs) ys = gap_marks-append xs ys
+gap_marks-append (_ ∷ xs) ys = gap_marks-append xs ys
 
 pub TakesGap-append : (f g h : Flags) (a b c : ℕ) (s m t : List ℕ) → TakesGap f a s g b m → TakesGap g b m h c t
     → TakesGap f a s h c t

@@ -1,16 +1,15 @@
 -- The stages of a reader in the grammar. Where a list of tokens is open, the reader is at a stage.
-use Rattle.std.proofs.Common.{◌≡◌, ℕ, ◌+◌, false, List, [], ◌∷◌, ◌++◌, Option, Some, None, refl, sym, ap, ◌∙◌, inl, inr}
-use Rattle.std.specs.List.{concat, flat_map, Contains, AllByRecursion}
-use Rattle.std.proofs.lemmas.List.Elements.{Contains-append_left, Contains-append_right}
+use Rattle.po_text.proofs.Kit.{◌≡◌, ℕ, ◌+◌, false, List, [], ◌∷◌, ◌++◌, Option, Some, None, refl, sym, ap, ◌∙◌, inl}
+use Rattle.po_text.proofs.Kit.{inr, concat, flat_map, Contains, AllByRecursion, Contains-append_left}
+use Rattle.po_text.proofs.Kit.{Contains-append_right, cases_Bool, eqb-true, eq-eqb, Token, Context, Id, Number, Open}
+use Rattle.po_text.proofs.Kit.{Close, Text, Stage, Start, ContextWord, ContextText, IdWord, IdText, FormWord, FormText}
+use Rattle.po_text.proofs.Kit.{PluralWord, PluralText, IndexOpen, IndexNumber, IndexClose, IndexedWord, IndexedText}
+use Rattle.po_text.proofs.Kit.{has_four, key_text, IsBoundary, Strings, Part, PlainPart, PluralPart, Derivation, texts}
+use Rattle.po_text.proofs.Kit.{context_tokens, form_tokens, part_tokens, tokens_of, IsOneOrMore, IsKeyText}
+use Rattle.po_text.proofs.Kit.{IsLawfulPart, IsLawfulEntry, IsOpenList}
 use Rattle.std.proofs.lemmas.Map.Views.{Contains-from_any}
-use Rattle.std.proofs.lemmas.Bool.{cases_Bool, eqb-true, eq-eqb}
-use Rattle.po_text.specs.Spelling.{Token, Context, Id, Number, Open, Close, Text}
-use Rattle.po_text.specs.Stages.{Stage, Start, ContextWord, ContextText, IdWord, IdText, FormWord}
-use Rattle.po_text.specs.Stages.{FormText, PluralWord, PluralText, IndexOpen, IndexNumber, IndexClose, IndexedWord}
-use Rattle.po_text.specs.Stages.{IndexedText, step, has_four, key_text, IsBoundary}
-use Rattle.po_text.specs.Entries.{Strings, Part, PlainPart, PluralPart, Derivation, texts}
-use Rattle.po_text.specs.Entries.{context_tokens, form_tokens, part_tokens, tokens_of, IsOneOrMore, IsKeyText}
-use Rattle.po_text.specs.Entries.{IsLawfulContext, IsLawfulPart, IsLawfulEntry, IsOpenList}
+use Rattle.po_text.specs.Stages.{step}
+use Rattle.po_text.specs.Entries.{IsLawfulContext}
 
 abbrev pub go : Option Stage → Token → Option Stage
 go None t = None
@@ -96,16 +95,12 @@ key_id parts h = key_some IdWord IdText (λ b. refl) (λ b. refl) parts h
 boundary_context : (p : Stage) → IsBoundary p → step p Context ≡ Some ContextWord
 unfolding step
 boundary_context Start h = refl
-boundary_context FormText h = refl
-boundary_context (IndexedText k) h = refl
-boundary_context _ h = absurd h
+boundary_context _ h = search
 
 boundary_id : (p : Stage) → IsBoundary p → step p Id ≡ Some IdWord
 unfolding step
 boundary_id Start h = refl
-boundary_id FormText h = refl
-boundary_id (IndexedText k) h = refl
-boundary_id _ h = absurd h
+boundary_id _ h = search
 
 context_run : (p : Stage) (c : Option Strings) (ts : List Token) → IsBoundary p → IsLawfulContext c
     → run (Some p) (context_tokens c ++ Id ∷ ts) ≡ run (Some IdWord) ts

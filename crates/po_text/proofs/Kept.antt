@@ -1,24 +1,19 @@
 -- The invariant of an entry's buffers.
-use Rattle.std.proofs.Common.{◌≡◌, ◌≢◌, ℕ, zero, suc, ◌+◌, ◌-◌, ◌<◌, ◌≤◌}
-use Rattle.std.proofs.Common.{Bool, add-one, get_or, true, false, List, [], ◌∷◌, ◌++◌}
-use Rattle.std.proofs.Common.{length, take, drop, Option, None, Some, refl, sym, ap}
-use Rattle.std.proofs.Common.{◌∙◌, subst, inl, inr, arith, append_assoc, length-append, zero-add, add-zero}
-use Rattle.std.specs.Prelude.{◌⊎◌, Result, Ok, Err, OnOk, is_ok, if◌then◌else◌, slice_get, slice_index}
-use Rattle.std.specs.List.{concat, Contains, AllByRecursion}
+use Rattle.po_text.proofs.Kit.{◌≡◌, ◌≢◌, ℕ, zero, suc, ◌+◌, ◌-◌, ◌<◌, ◌≤◌, Bool, get_or, true, false, List, [], ◌∷◌}
+use Rattle.po_text.proofs.Kit.{◌++◌, length, take, drop, Option, None, Some, refl, sym, ap, ◌∙◌, subst, inl, inr, arith}
+use Rattle.po_text.proofs.Kit.{append_assoc, length-append, ◌⊎◌, Result, Ok, Err, if◌then◌else◌, concat, Contains}
+use Rattle.po_text.proofs.Kit.{AllByRecursion, append-nil, Contains-append_cases, Flags, Lines, IsLawful, Entry, Stage}
+use Rattle.po_text.proofs.Kit.{ContextWord, ContextText, IdWord, IdText, PluralWord, PluralText, stage_view, Draft}
+use Rattle.po_text.proofs.Kit.{draft_of, offsets, put_text, new_form, some_if}
+use Rattle.std.proofs.Common.{add-one, zero-add, add-zero}
+use Rattle.std.specs.Prelude.{OnOk, is_ok, slice_get, slice_index}
 use Rattle.std.specs.declared.alloc.AllocError.{AllocError}
 use Rattle.po_text.specs.declared.stages.Stage as code
 use Rattle.po_text.specs.declared.stages.Stage.TheVariants as stages
-use Rattle.std.proofs.lemmas.List.{append-nil}
-use Rattle.std.proofs.lemmas.List.Elements.{Contains-append_cases}
 use Rattle.std.proofs.Math.Seq.{take-append_seam, drop-append_seam}
 use Rattle.po_text.specs.declared.buffer.EntryBuffer.TheInside.{Inside}
-use Rattle.po_text.specs.declared.flags.Flags.{Flags}
-use Rattle.po_text.specs.declared.buffer.Lines.{Lines}
-use Rattle.po_text.specs.Spelling.{IsLawful}
-use Rattle.po_text.specs.Entries.{Entry}
 use Rattle.po_text.specs.Lawful.{IsLawfulIf, HasNoFourIf, IsLawfulTexts}
-use Rattle.po_text.specs.Stages.{Stage, ContextWord, ContextText, IdWord, IdText, PluralWord, PluralText, stage_view}
-use Rattle.po_text.specs.Building.{Draft, draft_of, offsets, first_or, grown, put_text, add_form, new_form, some_if}
+use Rattle.po_text.specs.Building.{first_or, with_bytes, add_form}
 use Rattle.po_text.specs.Buffers.{cut_forms, entry_in, draft_in, IsWellBuilt, CanAddText}
 use Rattle.po_text.proofs.Drafts.{same_entry}
 use Rattle.po_text.proofs.Lawful.{lawful_nil, lawful_append}
@@ -108,14 +103,15 @@ begun_lawful line flags b = record {
 
 -- ---- one more string
 
-grown_lawful : (o : Option (List ℕ)) (bytes : List ℕ) → IsLawfulIf o → IsLawful bytes → IsLawfulIf (grown o bytes)
+grown_lawful : (o : Option (List ℕ)) (bytes : List ℕ) → IsLawfulIf o → IsLawful bytes → IsLawfulIf (with_bytes o bytes)
 grown_lawful None bytes h l = tt
 grown_lawful (Some old) bytes h l = lawful_append old bytes h l
 
 free_append : (a b : List ℕ) → ¬ Contains a 4 → ¬ Contains b 4 → ¬ Contains (a ++ b) 4
 free_append a b p q m = elim (Contains-append_cases a b 4 m) [ inl here ↦ p here | inr there ↦ q there ]
 
-grown_free : (o : Option (List ℕ)) (bytes : List ℕ) → HasNoFourIf o → ¬ Contains bytes 4 → HasNoFourIf (grown o bytes)
+grown_free : (o : Option (List ℕ)) (bytes : List ℕ) → HasNoFourIf o → ¬ Contains bytes 4
+    → HasNoFourIf (with_bytes o bytes)
 grown_free None bytes h l = tt
 grown_free (Some old) bytes h l = free_append old bytes h l
 
@@ -205,7 +201,7 @@ context_added e bytes l free h = (
     fuzzy = e.fuzzy;
     c_format = e.c_format;
     formats = e.formats;
-    context = grown e.context bytes;
+    context = with_bytes e.context bytes;
     id = e.id;
     plural =
         e.plural;
@@ -261,7 +257,7 @@ plural_added e bytes l h = (
     formats = e.formats;
     context = e.context;
     id = e.id;
-    plural = grown
+    plural = with_bytes
         e.plural bytes;
     forms = e.forms;
   },
@@ -391,7 +387,7 @@ text_put (Ok u) p old new e bytes view h h' is = draft_is new h' ∙ is
     ∙ ap (put_text p bytes) (draft_of_view old e view h)
 text_put (Err x) p old new e bytes view h h' is = tt
 
-grown_if : (b : Bool) (old bytes : List ℕ) → some_if b (old ++ bytes) ≡ grown (some_if b old) bytes
+grown_if : (b : Bool) (old bytes : List ℕ) → some_if b (old ++ bytes) ≡ with_bytes (some_if b old) bytes
 grown_if true old bytes = refl
 grown_if false old bytes = refl
 

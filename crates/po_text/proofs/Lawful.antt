@@ -1,12 +1,9 @@
 -- Lawful texts, and the forms of derived entries.
-use Rattle.std.proofs.Common.{◌≡◌, ℕ, List, [], ◌∷◌, ◌++◌, None, length, refl, sym, subst, inl, inr, arith}
-use Rattle.std.specs.List.{AllByRecursion}
-use Rattle.std.proofs.lemmas.List.Elements.{Contains-append_cases}
+use Rattle.po_text.proofs.Kit.{◌≡◌, ℕ, List, [], ◌∷◌, ◌++◌, None, length, refl, sym, subst, inl, inr, arith}
+use Rattle.po_text.proofs.Kit.{AllByRecursion, Contains-append_cases, Chain, IsLawful, Part, PlainPart, PluralPart}
+use Rattle.po_text.proofs.Kit.{plural_of, forms_of, IsLawfulPart, IsOneOrMore, Entry, EntryAt}
 use Rattle.std.proofs.lemmas.Str.{IsUtf8-append, IsUtf8-nil}
-use Rattle.byte_text.specs.Chain.{Chain}
-use Rattle.po_text.specs.Spelling.{IsLawful}
-use Rattle.po_text.specs.Entries.{Part, PlainPart, PluralPart, Remaining, plural_of}
-use Rattle.po_text.specs.Entries.{forms_of, IsLawfulPart, IsOneOrMore, Entry, EntryAt}
+use Rattle.po_text.specs.Entries.{Remaining}
 use Rattle.po_text.specs.Lawful.{HasItsForms}
 
 pub lawful_nil : IsLawful []

@@ -1,14 +1,11 @@
 -- Lexemes, one after another.
-use Rattle.std.proofs.Common.{◌≡◌, ℕ, ◌+◌, List, [], ◌∷◌, ◌++◌, Some, refl, sym, ap, ◌∙◌, arith, append_assoc}
-use Rattle.std.specs.List.{AllByRecursion}
-use Rattle.std.proofs.lemmas.List.{append-nil}
-use Rattle.po_text.specs.Spelling.{Token, Text, Open, Close, Mark, Piece, White}
-use Rattle.po_text.specs.Spelling.{Comment, Word, OpenBracket, CloseBracket, Quoted, PieceAt, piece_token}
-use Rattle.po_text.specs.Spelling.{Lexeme, lexemes, comment_marks, newlines, line_of, Spells, HasFault}
-use Rattle.po_text.specs.Lexing.{TakesLexemes, HasNext, HasEnd, HasFaultFrom, IsGapPiece, token_view, gap_marks}
-use Rattle.po_text.specs.declared.flags.Flags.{Flags}
+use Rattle.po_text.proofs.Kit.{◌≡◌, ℕ, ◌+◌, List, [], ◌∷◌, ◌++◌, Some, refl, sym, ap, ◌∙◌, arith, append_assoc}
+use Rattle.po_text.proofs.Kit.{AllByRecursion, append-nil, Token, Text, Open, Close, Mark, Piece, White, Comment, Word}
+use Rattle.po_text.proofs.Kit.{OpenBracket, CloseBracket, Quoted, PieceAt, Lexeme, lexemes, comment_marks, line_of}
+use Rattle.po_text.proofs.Kit.{Spells, HasFault, TakesLexemes, HasEnd, token_view, gap_marks, Flags, PoKind}
+use Rattle.po_text.specs.Spelling.{piece_token, newlines}
+use Rattle.po_text.specs.Lexing.{HasNext, HasFaultFrom, IsGapPiece}
 use Rattle.po_text.specs.declared.lexer.Token as code
-use Rattle.po_text.specs.declared.fault.PoKind.{PoKind}
 use Rattle.po_text.proofs.Chains.{Chain-append}
 use Rattle.po_text.proofs.GapLemmas.{line_of-append}
 
@@ -21,28 +18,21 @@ over_gap line end marks (White b ∷ gap) more all e = over_gap (line + newlines
     (omega arith)
 over_gap line end marks (Comment after ∷ gap) more all e = over_gap line end (marks ++ comment_marks after) gap more
     all.1 e ∙ ap (λ (m : List Mark). lexemes end m more) (append_assoc marks (comment_marks after) (gap_marks gap))
-over_gap line end marks (Word bytes token ∷ gap) more all e = absurd all.0
-over_gap line end marks (OpenBracket ∷ gap) more all e = absurd all.0
-over_gap line end marks (CloseBracket ∷ gap) more all e = absurd all.0
-over_gap line end marks (Quoted bytes ∷ gap) more all e = absurd all.0
+over_gap line end marks (_ ∷ gap) more all e = absurd all.0
 
 -- a token is a lexeme with the marks before it, on the same line
 over_token : (line : ℕ) (marks : List Mark) (p : Piece) (token : Token) (more : List Piece) → piece_token p ≡ Some token
     → lexemes line marks (p ∷ more) ≡ record { marks = marks; line = line; token = token } ∷ lexemes line [] more
-over_token line marks (White b) token more e = absurd (cc e)
-over_token line marks (Comment after) token more e = absurd (cc e)
 over_token line marks (Word bytes t) token more e = let same : t ≡ token = cc e in rw same refl
 over_token line marks OpenBracket token more e = let same : Open ≡ token = cc e in rw (← same) refl
 over_token line marks CloseBracket token more e = let same : Close ≡ token = cc e in rw (← same) refl
 over_token line marks (Quoted bytes) token more e = let same : Text bytes ≡ token = cc e in rw (← same) refl
+over_token line marks _ token more e = absurd (cc e)
 
 token_line : (p : Piece) (token : Token) → piece_token p ≡ Some token → line_of (p ∷ []) ≡ 1
 token_line (White b) token e = absurd (cc e)
 token_line (Comment after) token e = absurd (cc e)
-token_line (Word bytes t) token e = refl
-token_line OpenBracket token e = refl
-token_line CloseBracket token e = refl
-token_line (Quoted bytes) token e = refl
+token_line _ token e = refl
 
 -- the next lexeme
 abbrev pub lexeme_of : (token : code.Token) (bytes : List ℕ) (line : ℕ) (gap : List Piece) → Lexeme

@@ -1,3 +1,4 @@
+pub mod Kit
 pub mod Chains
 pub mod LaneLemmas
 pub mod UnitLemmas

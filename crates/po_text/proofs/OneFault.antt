@@ -1,23 +1,19 @@
 -- A text has at most one lexical fault, and none if it spells lexemes.
-use Rattle.std.proofs.Common.{◌≡◌, ◌≢◌, ℕ, ◌<◌, ◌≤◌, Bool, true, false, List, [], ◌∷◌}
-use Rattle.std.proofs.Common.{◌++◌, Some, None, refl, sym, ap, ◌∙◌, subst, arith, inl, inr}
-use Rattle.std.specs.Prelude.{◌==◌, ◌||◌}
-use Rattle.std.specs.List.{take_while}
-use Rattle.std.proofs.lemmas.Bool.{cases_Bool}
-use Rattle.po_text.specs.declared.fault.PoKind.{PoKind}
-use Rattle.po_text.specs.declared.fault.PoKind.TheVariants.{BadEscape, OpenString, BadWord, BadText}
-use Rattle.po_text.specs.Spelling.{Piece, White, Comment, Word, OpenBracket, CloseBracket}
-use Rattle.po_text.specs.Spelling.{Quoted, PieceAt, is_white, is_word_byte, word_token, is_plain}
-use Rattle.po_text.specs.Spelling.{is_octal, octal_run, octal_value, escaped, Plain, Escape}
-use Rattle.po_text.specs.Spelling.{Octal, UnitAt, UnitsAt, IsBadEscape, IsOpenEnd, IsLawful}
-use Rattle.po_text.specs.Spelling.{FaultAt, HasFault, Spells, Lexeme, line_of}
+use Rattle.po_text.proofs.Kit.{◌≡◌, ◌≢◌, ℕ, ◌<◌, ◌≤◌, Bool, true, false, List, [], ◌∷◌, ◌++◌, Some, None, refl, sym, ap}
+use Rattle.po_text.proofs.Kit.{◌∙◌, subst, arith, inl, inr, ◌==◌, take_while, cases_Bool, PoKind, OpenString, BadText}
+use Rattle.po_text.proofs.Kit.{Piece, White, Word, Quoted, PieceAt, is_white, is_word_byte, word_token, is_plain}
+use Rattle.po_text.proofs.Kit.{is_octal, octal_value, escaped_byte, Plain, Escape, Octal, UnitAt, UnitsAt, IsOpenEnd}
+use Rattle.po_text.proofs.Kit.{IsLawful, HasFault, Spells, Lexeme, line_of}
+use Rattle.std.specs.Prelude.{◌||◌}
+use Rattle.po_text.specs.declared.fault.PoKind.TheVariants.{BadEscape, BadWord}
+use Rattle.po_text.specs.Spelling.{octal_run, IsBadEscape, FaultAt}
 use Rattle.po_text.proofs.OneReading.{byte_kind, piece_kind, StartsAs, starts}
 use Rattle.po_text.proofs.OneReading.{same_kind, word_no_white, nothing_stops, Piece-one}
 use Rattle.po_text.proofs.Unique.{Chain-one, UnitsAt-one, Stops, plain_no_slash}
 use Rattle.po_text.proofs.Unique.{head_is, octal_no_escape, octal_run-none, quote_stops}
 
 -- no unit begins with a backslash before neither the letter of an escape nor octal digits up to 255
-slash_stops : (s m : List ℕ) → s ≡ 92 ∷ m → ((c v : ℕ) (n : List ℕ) → m ≡ c ∷ n → escaped c ≡ Some v → ⊥)
+slash_stops : (s m : List ℕ) → s ≡ 92 ∷ m → ((c v : ℕ) (n : List ℕ) → m ≡ c ∷ n → escaped_byte c ≡ Some v → ⊥)
     → ((digits n : List ℕ) → m ≡ digits ++ n → octal_run m ≡ digits → digits ≢ [] → octal_value digits ≤ 255 → ⊥)
     → Stops UnitAt s
 slash_stops s m e no_escape no_octal (Plain b) n p = plain_no_slash b s n m p.0 p.1 e
@@ -26,12 +22,12 @@ slash_stops s m e no_escape no_octal (Octal digits) n p =
     let f = p.0 in let split : m ≡ digits ++ n = cc (e, f) in
     no_octal digits n split (ap octal_run split ∙ p.1) p.2 p.3
 
-none_is_none : (c v : ℕ) → escaped c ≡ None → escaped c ≡ Some v → ⊥
+none_is_none : (c v : ℕ) → escaped_byte c ≡ None → escaped_byte c ≡ Some v → ⊥
 none_is_none c v e f = absurd (cc (e, f))
 
 bad_stops : (s : List ℕ) → IsBadEscape s → Stops UnitAt s
 bad_stops s (inl (c, more, e, no_end, no_octal, none)) = slash_stops s (c ∷ more) e
-    (λ c' v n f is. let same : c ≡ c' = cc f in none_is_none c' v (ap escaped (sym same) ∙ none) is)
+    (λ c' v n f is. let same : c ≡ c' = cc f in none_is_none c' v (ap escaped_byte (sym same) ∙ none) is)
     (λ digits n f run some small. some (sym run ∙ octal_run-none c more no_octal))
 bad_stops s (inr (more, e, large)) = slash_stops s more e
     (λ c v n f is. elim (cases_Bool (is_octal c)) [
@@ -54,8 +50,7 @@ line_end_stops s m e (Octal digits) n p = let f = p.0 in absurd
 
 end_stops : Stops UnitAt []
 end_stops (Plain b) n p = let f = p.0 in absurd (cc f)
-end_stops (Escape c v) n p = let f = p.0 in absurd (cc f)
-end_stops (Octal digits) n p = let f = p.0 in absurd (cc f)
+end_stops _ n p = let f = p.0 in absurd (cc f)
 
 octal_run-nil : octal_run [] ≡ []
 unfolding octal_run
@@ -68,8 +63,8 @@ open_stops (b ∷ []) (inr e) = slash_stops (b ∷ []) [] (ap (λ (x : ℕ). x �
     (λ c v n f is. absurd (cc f)) (λ digits n f run some small. some (sym run ∙ octal_run-nil))
 open_stops (b ∷ c ∷ more) (inl e) = line_end_stops (b ∷ c ∷ more) (c ∷ more) (ap (λ (x : ℕ). x ∷ c ∷ more) e)
 open_stops (b ∷ c ∷ more) (inr e) = slash_stops (b ∷ c ∷ more) (c ∷ more) (ap (λ (x : ℕ). x ∷ c ∷ more) e.0)
-    (λ c' v n f is. let same : 10 ≡ c' = let g = e.1 in cc (f, g) in let none : escaped 10
-    ≡ None = refl in none_is_none c' v (ap escaped (sym same) ∙ none) is)
+    (λ c' v n f is. let same : 10 ≡ c' = let g = e.1 in cc (f, g) in let none : escaped_byte 10
+    ≡ None = refl in none_is_none c' v (ap escaped_byte (sym same) ∙ none) is)
     (λ digits n f run some small. let octal : is_octal c ≡ false = ap is_octal e.1 in some
     (sym run ∙ octal_run-none c more octal))
 
@@ -122,11 +117,7 @@ word_kind b e = rw (word_no_white b e, e) refl
 
 piece_below : (p : Piece) → piece_kind p < 6
 piece_below (White b) = omega arith
-piece_below (Word bytes token) = omega arith
-piece_below (Comment after) = omega arith
-piece_below OpenBracket = omega arith
-piece_below CloseBracket = omega arith
-piece_below (Quoted bytes) = omega arith
+piece_below _ = omega arith
 
 word_fault_stops : (rest : List ℕ) → StartsAs 1 rest → word_token (take_while is_word_byte rest) ≡ None
     → Stops PieceAt rest
@@ -233,11 +224,7 @@ one_kind BadEscape BadText rest p q = absurd (escape_no_text rest p q)
 one_kind BadText BadEscape rest p q = absurd (escape_no_text rest q p)
 one_kind OpenString BadText rest p q = absurd (open_no_text rest p q)
 one_kind BadText OpenString rest p q = absurd (open_no_text rest q p)
-one_kind _ BadWord rest p q = absurd p
-one_kind _ BadEscape rest p q = absurd p
-one_kind _ OpenString rest p q = absurd p
-one_kind _ BadText rest p q = absurd p
-one_kind kind _ rest p q = absurd q
+one_kind _ _ rest p q = absurd (first_of (assumption p, assumption q))
 
 pub HasFault-one : (text : List ℕ) (kind kind' : PoKind) (line line' : ℕ) → HasFault text kind line
     → HasFault text kind' line' → (kind ≡ kind') × (line ≡ line')

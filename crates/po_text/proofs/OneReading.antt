@@ -1,14 +1,11 @@
 -- A text is cut into pieces in one way, up to where no piece begins.
-use Rattle.std.proofs.Common.{◌≡◌, ℕ, ◌≤◌, true, false, List, [], ◌∷◌, ◌++◌, Some}
-use Rattle.std.proofs.Common.{None, refl, sym, ap, ◌∙◌, subst, arith, inl, inr}
-use Rattle.std.specs.Prelude.{◌==◌, if◌then◌else◌}
-use Rattle.std.specs.List.{take_while}
-use Rattle.std.proofs.lemmas.Bool.{cases_Bool}
+use Rattle.po_text.proofs.Kit.{◌≡◌, ℕ, ◌≤◌, true, false, List, [], ◌∷◌, ◌++◌, Some, None, refl, sym, ap, ◌∙◌, subst}
+use Rattle.po_text.proofs.Kit.{arith, inl, inr, ◌==◌, if◌then◌else◌, take_while, cases_Bool, Piece, White, Comment}
+use Rattle.po_text.proofs.Kit.{Word, OpenBracket, CloseBracket, Quoted, PieceAt, is_white, is_word_byte}
+use Rattle.po_text.proofs.Kit.{is_not_line_end, word_token, Token, UnitsAt, Spells, Lexeme, lexemes}
 use Rattle.std.proofs.lemmas.Bool.Decides.{nat_tests}
 use Rattle.std.proofs.lemmas.List.{append_cancel_left}
 use Rattle.std.proofs.lemmas.List.Sums.{take_while-cons}
-use Rattle.po_text.specs.Spelling.{Piece, White, Comment, Word, OpenBracket, CloseBracket, Quoted, PieceAt, is_white}
-use Rattle.po_text.specs.Spelling.{is_word_byte, is_not_line_end, word_token, Token, UnitsAt, Spells, Lexeme, lexemes}
 use Rattle.po_text.proofs.Unique.{Stops, IsOneWay, Chain-one, UnitsAt-one, quote_stops}
 
 abbrev pub byte_kind : ℕ → ℕ

@@ -1,14 +1,11 @@
 -- A list of tokens that the parser takes is open: an entry can be completed from every stage.
-use Rattle.std.proofs.Common.{◌≡◌, ℕ, List, [], ◌∷◌, ◌++◌, Option, Some, None}
-use Rattle.std.proofs.Common.{refl, sym, ap, ◌∙◌, inl, inr, append_assoc, arith}
-use Rattle.std.specs.Prelude.{◌⊎◌}
-use Rattle.std.specs.List.{flat_map, AllByRecursion, concat, Contains}
-use Rattle.std.proofs.lemmas.Bool.{eq-eqb}
-use Rattle.po_text.specs.Spelling.{Token, Id, Str, Number, Open, Close, Text}
-use Rattle.po_text.specs.Entries.{Derivation, PlainPart, tokens_of, IsLawfulEntry, IsOpenList}
-use Rattle.po_text.specs.Stages.{Stage, Start, ContextWord, ContextText, IdWord, IdText}
-use Rattle.po_text.specs.Stages.{FormWord, FormText, PluralWord, PluralText, IndexOpen, IndexNumber}
-use Rattle.po_text.specs.Stages.{IndexClose, IndexedWord, IndexedText, IsBoundary, step}
+use Rattle.po_text.proofs.Kit.{◌≡◌, ℕ, List, [], ◌∷◌, ◌++◌, Option, Some, None, refl, sym, ap, ◌∙◌, inl, inr}
+use Rattle.po_text.proofs.Kit.{append_assoc, arith, ◌⊎◌, flat_map, AllByRecursion, concat, Contains, eq-eqb, Token, Id}
+use Rattle.po_text.proofs.Kit.{Str, Number, Open, Close, Text, Derivation, PlainPart, tokens_of, IsLawfulEntry}
+use Rattle.po_text.proofs.Kit.{IsOpenList, Stage, Start, ContextWord, ContextText, IdWord, IdText, FormWord, FormText}
+use Rattle.po_text.proofs.Kit.{PluralWord, PluralText, IndexOpen, IndexNumber, IndexClose, IndexedWord, IndexedText}
+use Rattle.po_text.proofs.Kit.{IsBoundary}
+use Rattle.po_text.specs.Stages.{step}
 use Rattle.po_text.proofs.Grammar.{run, run-over, run-from}
 use Rattle.po_text.proofs.Completes.{derived}
 
@@ -23,20 +20,18 @@ id_end = Text [] ∷ Str ∷ form_end
 
 -- tokens that complete the entry
 abbrev completion : Stage → List Token
-completion Start = []
 completion ContextWord = Text [] ∷ Id ∷ id_end
 completion ContextText = Id ∷ id_end
 completion IdWord = id_end
 completion IdText = Str ∷ form_end
 completion FormWord = form_end
-completion FormText = []
 completion PluralWord = Text [] ∷ Str ∷ Open ∷ index_end 0
 completion PluralText = Str ∷ Open ∷ index_end 0
 completion (IndexOpen k) = Open ∷ index_end k
 completion (IndexNumber k) = index_end k
 completion (IndexClose k) = Close ∷ form_end
 completion (IndexedWord k) = form_end
-completion (IndexedText k) = []
+completion _ = []
 
 abbrev EndsWell : Option Stage → Type 0
 EndsWell p = (r : Stage) × IsBoundary r × (p ≡ Some r)
@@ -53,12 +48,6 @@ index_ends k = run-from (step (IndexNumber k) (Number k)) (Some (IndexClose k)) 
 completes : (p : Stage) → EndsWell (run (Some p) (completion p))
 unfolding step
 completes Start = (Start, tt, refl)
-completes ContextWord = (FormText, tt, refl)
-completes ContextText = (FormText, tt, refl)
-completes IdWord = (FormText, tt, refl)
-completes IdText = (FormText, tt, refl)
-completes FormWord = (FormText, tt, refl)
-completes FormText = (FormText, tt, refl)
 completes PluralWord = (IndexedText 0, tt, index_ends 0)
 completes PluralText = (IndexedText 0, tt, index_ends 0)
 completes (IndexOpen k) = (IndexedText k, tt, index_ends k)
@@ -66,6 +55,7 @@ completes (IndexNumber k) = (IndexedText k, tt, index_ends k)
 completes (IndexClose k) = (IndexedText k, tt, refl)
 completes (IndexedWord k) = (IndexedText k, tt, refl)
 completes (IndexedText k) = (IndexedText k, tt, refl)
+completes _ = (FormText, tt, refl)
 
 -- two cuts of one list: the first part of one begins that of the other, or extends it
 pub two_cuts : {A : Type 0} (xs ys a b : List A) → xs ++ ys ≡ a ++ b → ((c : List A) × (a ≡ xs ++ c))

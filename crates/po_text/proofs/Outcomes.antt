@@ -1,17 +1,11 @@
 -- A text has at most one outcome.
-use Rattle.std.proofs.Common.{◌≡◌, ℕ, ◌<◌, ◌≤◌, List, [], ◌∷◌, ◌++◌, length, Some}
-use Rattle.std.proofs.Common.{None, refl, sym, ap, ◌∙◌, subst, inl, inr, arith, append_assoc}
-use Rattle.std.specs.Prelude.{◌⊎◌}
-use Rattle.std.proofs.lemmas.List.{map-append, append-nil}
-use Rattle.po_text.specs.declared.fault.PoKind.{PoKind}
-use Rattle.po_text.specs.declared.fault.PoKind.TheVariants.{TooLarge, NotUtf8, BadEscape, OpenString, BadWord}
-use Rattle.po_text.specs.declared.fault.PoKind.TheVariants.{BadText, BadOrder, BadIndex, Memory}
-use Rattle.po_text.specs.Spelling.{Token, Text, Lexeme}
-use Rattle.po_text.specs.Entries.{Entry, Derives, all_tokens, texts, IsOpenList}
-use Rattle.po_text.specs.Entries.{IsKeyword, ClosesAt, ClosesBy, PutsFour, IsIndexStage}
-use Rattle.po_text.specs.Stages.{Start}
-use Rattle.po_text.specs.Building.{begin, no_flags, State, at_state, drafts_at, start}
-use Rattle.po_text.specs.Outcome.{HasGrammarFault, Reads, IsFaulty, body, IsReadable, IsUndecodable, Gives, Refuses}
+use Rattle.po_text.proofs.Kit.{◌≡◌, ℕ, ◌<◌, ◌≤◌, List, [], ◌∷◌, ◌++◌, length, Some, None, refl, sym, ap, ◌∙◌, subst}
+use Rattle.po_text.proofs.Kit.{inl, inr, arith, append_assoc, ◌⊎◌, map-append, append-nil, PoKind, BadText, BadOrder}
+use Rattle.po_text.proofs.Kit.{Token, Text, Lexeme, Entry, Derives, all_tokens, texts, IsOpenList, ClosesAt, ClosesBy}
+use Rattle.po_text.proofs.Kit.{Start, begin, no_flags, State, at_state, drafts_at, start, Reads, IsFaulty, body, Gives}
+use Rattle.po_text.specs.declared.fault.PoKind.TheVariants.{TooLarge, NotUtf8, BadIndex}
+use Rattle.po_text.specs.Entries.{IsKeyword, PutsFour, IsIndexStage}
+use Rattle.po_text.specs.Outcome.{HasGrammarFault, IsReadable, IsUndecodable, Refuses}
 use Rattle.po_text.proofs.Drafts.{drafts_one}
 use Rattle.po_text.proofs.Feeding.{chain_feeds, feeds_stage}
 use Rattle.po_text.proofs.Grammar.{run, live_front, open_run}
@@ -145,10 +139,7 @@ closes_one BadIndex BadOrder before x m n p q = absurd (q.1 p.0)
 closes_one BadOrder BadText before x m n p q = absurd (p.0 n q)
 closes_one BadOrder BadIndex before x m n p q = absurd (p.1 q.0)
 closes_one BadOrder BadOrder before x m n p q = (refl, p.2 ∙ sym q.2)
-closes_one BadText _ before x m n p q = absurd q
-closes_one BadIndex _ before x m n p q = absurd q
-closes_one BadOrder _ before x m n p q = absurd q
-closes_one _ kind' before x m n p q = absurd p
+closes_one _ _ before x m n p q = absurd (first_of (assumption p, assumption q))
 
 snoc_one : (xs ys : List Lexeme) (x y : Lexeme) → xs ++ (x ∷ []) ≡ ys ++ (y ∷ []) → x ≡ y
 snoc_one [] [] x y e = cc e
@@ -216,13 +207,7 @@ Refusal text kind line = ((kind ≡ TooLarge) × (67108864 < length text) × (li
 refusal_is : (text : List ℕ) (kind : PoKind) (line : ℕ) → Refuses text kind line → Refusal text kind line
 refusal_is text TooLarge line h = inl (refl, h.0, h.1)
 refusal_is text NotUtf8 line h = inr (inl (refl, h))
-refusal_is text BadEscape line h = inr (inr h)
-refusal_is text OpenString line h = inr (inr h)
-refusal_is text BadWord line h = inr (inr h)
-refusal_is text BadText line h = inr (inr h)
-refusal_is text BadOrder line h = inr (inr h)
-refusal_is text BadIndex line h = inr (inr h)
-refusal_is text Memory line h = inr (inr h)
+refusal_is text _ line h = inr (inr h)
 
 large_small : (text : List ℕ) → 67108864 < length text → length text ≤ 67108864 → ⊥
 large_small text p q = absurd (omega (arith, p, q))
@@ -263,10 +248,4 @@ faulty_refuses text TooLarge line r (inr (found, spells, inr (is, e))) = absurd 
 faulty_refuses text NotUtf8 line r (inl f) = absurd f.fault
 faulty_refuses text NotUtf8 line r (inr (found, spells, inl c)) = absurd c.how
 faulty_refuses text NotUtf8 line r (inr (found, spells, inr (is, e))) = absurd (cc is)
-faulty_refuses text BadEscape line r f = (r, f)
-faulty_refuses text OpenString line r f = (r, f)
-faulty_refuses text BadWord line r f = (r, f)
-faulty_refuses text BadText line r f = (r, f)
-faulty_refuses text BadOrder line r f = (r, f)
-faulty_refuses text BadIndex line r f = (r, f)
-faulty_refuses text Memory line r f = (r, f)
+faulty_refuses text _ line r f = (r, f)

@@ -1,5 +1,5 @@
 -- The entries of a text take at most twice its size in an MO file.
-use Rattle.std.proofs.Common.{◌≡◌, ℕ, ◌+◌, ◌*◌, ◌≤◌, Bool, true, false, cond, List, [], ◌∷◌}
+use Rattle.std.proofs.Common.{◌≡◌, ℕ, ◌+◌, ◌*◌, ◌≤◌, Bool, true, cond, List, [], ◌∷◌}
 use Rattle.std.proofs.Common.{◌++◌, map, drop, take, length, Option, Some, None, refl, ap, arith, length-append}
 use Rattle.std.specs.Prelude.{◌&&◌, codes}
 use Rattle.std.specs.List.{concat}
@@ -9,10 +9,9 @@ use Rattle.std.proofs.lemmas.List.{length-map, length-drop, map-append}
 use Rattle.std.proofs.lemmas.Option.{cond_some}
 use Rattle.std.proofs.lemmas.Slice.Eq.{bytes_eq-Decides}
 use Rattle.byte_text.specs.Chain.{Chain}
-use Rattle.po_text.specs.Spelling.{Token, Context, Id, Plural, Str, Number, Open, Close}
-use Rattle.po_text.specs.Spelling.{Text, Mark, Lexeme, lexemes, StringUnit, Plain, Escape, Octal}
-use Rattle.po_text.specs.Spelling.{UnitAt, UnitsAt, unit_value, Piece, White, Comment, Word, OpenBracket}
-use Rattle.po_text.specs.Spelling.{CloseBracket, Quoted, PieceAt, word_token, number_of, newlines, comment_marks}
+use Rattle.po_text.specs.Spelling.{Token, Context, Id, Plural, Str, Text, Mark, Lexeme, lexemes, StringUnit, Octal}
+use Rattle.po_text.specs.Spelling.{UnitAt, UnitsAt, unit_value, Piece, White, Comment, Word}
+use Rattle.po_text.specs.Spelling.{Quoted, PieceAt, word_token, number_of, newlines, comment_marks}
 use Rattle.po_text.specs.Entries.{Strings, Part, PlainPart, PluralPart, Derivation, texts}
 use Rattle.po_text.specs.Entries.{context_tokens, form_tokens, part_tokens, tokens_of, Entry, joined_option}
 use Rattle.po_text.specs.Entries.{plural_of, forms_of, entry_of, Remaining, EntryAt, all_tokens, first_form_line}
@@ -47,10 +46,8 @@ token_size Context = 7
 token_size Id = 5
 token_size Plural = 12
 token_size Str = 6
-token_size (Number n) = 1
-token_size Open = 1
-token_size Close = 1
 token_size (Text bytes) = 2 + length bytes
+token_size _ = 1
 
 abbrev tokens_size : List Token → ℕ
 tokens_size [] = 0
@@ -62,9 +59,8 @@ tokens_size-append (x ∷ xs) ys = omega (arith, tokens_size-append xs ys)
 
 -- a unit takes at least one byte and has one value
 unit_size : (u : StringUnit) (s t : List ℕ) → UnitAt u s t → 1 + length t ≤ length s
-unit_size (Plain b) s t at = omega (arith, ap length at.0)
-unit_size (Escape c v) s t at = omega (arith, ap length at.0)
 unit_size (Octal digits) s t at = omega (arith, ap length at.0, length-append digits t)
+unit_size _ s t at = omega (arith, ap length at.0)
 
 units_size : (units : List StringUnit) (s t : List ℕ) → Chain UnitAt units s t → length units + length t ≤ length s
 units_size [] s t e = omega (arith, ap length e)
@@ -95,8 +91,7 @@ keyword_size word keyword t token other size more = cond_both (bytes_eq word key
 
 middle : (a b c : Bool) → (a && (b && c)) ≡ true → b ≡ true
 middle true true c e = refl
-middle true false c e = absurd (cc e)
-middle false b c e = absurd (cc e)
+middle _ _ c e = absurd (cc e)
 
 number_size : (word : List ℕ) (token : Token) → number_of word ≡ Some token → token_size token ≤ length word
 number_size word token e =
@@ -121,12 +116,9 @@ pieces_size (Comment after ∷ more) line marks s t (m, at, rest) = omega
     (arith, ap length at.0, length-append after m, pieces_size more line (marks ++ comment_marks after) m t rest)
 pieces_size (Word bytes token ∷ more) line marks s t (m, at, rest) = omega
     (arith, ap length at.0, length-append bytes m, word_size bytes token at.2, pieces_size more line [] m t rest)
-pieces_size (OpenBracket ∷ more) line marks s t (m, at, rest) = omega
-    (arith, ap length at, pieces_size more line [] m t rest)
-pieces_size (CloseBracket ∷ more) line marks s t (m, at, rest) = omega
-    (arith, ap length at, pieces_size more line [] m t rest)
 pieces_size (Quoted bytes ∷ more) line marks s t (m, at, rest) = omega
     (arith, ap length at.1, values_size bytes at.0 (34 ∷ m) at.2, pieces_size more line [] m t rest)
+pieces_size (_ ∷ more) line marks s t (m, at, rest) = omega (arith, ap length at, pieces_size more line [] m t rest)
 
 -- ---- an entry takes at most twice as much as its tokens
 

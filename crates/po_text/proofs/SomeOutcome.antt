@@ -1,22 +1,16 @@
 -- A text has an outcome: that it has none leads to ⊥. On the way to ⊥ any case may be split, decidable or not.
-use Rattle.std.proofs.Common.{◌≡◌, ℕ, zero, suc, ◌+◌, ◌<◌, ◌≤◌, true, List, [], ◌∷◌, ◌++◌, length, take}
-use Rattle.std.proofs.Common.{drop, Option, Some, None, refl, sym, ap, ◌∙◌, subst, arith, inl, inr, append_assoc}
-use Rattle.std.specs.Prelude.{◌⊎◌}
-use Rattle.std.specs.List.{take_while, prefix_len}
-use Rattle.std.proofs.lemmas.Bool.{cases_eq, ne_eqb, cases_Bool, cases_lt}
-use Rattle.std.proofs.lemmas.List.{append-nil, take-append-drop, length-drop}
-use Rattle.po_text.specs.declared.fault.PoKind.{PoKind}
-use Rattle.po_text.specs.declared.fault.PoKind.TheVariants.{TooLarge, NotUtf8, BadEscape, OpenString}
-use Rattle.po_text.specs.declared.fault.PoKind.TheVariants.{BadWord, BadText, BadOrder, BadIndex}
-use Rattle.byte_text.specs.Chain.{Chain}
-use Rattle.po_text.specs.Spelling.{StringUnit, Plain, Escape, Octal, UnitAt, UnitsAt, unit_value}
-use Rattle.po_text.specs.Spelling.{is_octal, octal_run, octal_value, escaped, IsBadEscape, IsOpenEnd, Piece}
-use Rattle.po_text.specs.Spelling.{White, Comment, Word, OpenBracket, CloseBracket, Quoted, PieceAt}
-use Rattle.po_text.specs.Spelling.{is_white, is_word_byte, is_not_line_end, word_token, FaultAt, HasFault, Spells}
-use Rattle.po_text.specs.Spelling.{Lexeme, lexemes, line_of}
-use Rattle.po_text.specs.Entries.{Entry, Derives, all_tokens, IsOpenList, ClosesBy}
-use Rattle.po_text.specs.Stages.{Start}
-use Rattle.po_text.specs.Outcome.{HasGrammarFault, Reads, IsFaulty, body, IsReadable, Gives, Refuses}
+use Rattle.po_text.proofs.Kit.{◌≡◌, ℕ, zero, suc, ◌+◌, ◌<◌, ◌≤◌, true, List, [], ◌∷◌, ◌++◌, length, take, drop, Option}
+use Rattle.po_text.proofs.Kit.{Some, None, refl, sym, ap, ◌∙◌, subst, arith, inl, inr, append_assoc, ◌⊎◌, take_while}
+use Rattle.po_text.proofs.Kit.{prefix_len, cases_eq, ne_eqb, cases_Bool, append-nil, take-append-drop, length-drop}
+use Rattle.po_text.proofs.Kit.{PoKind, OpenString, BadText, BadOrder, Chain, StringUnit, Plain, Escape, Octal, UnitAt}
+use Rattle.po_text.proofs.Kit.{UnitsAt, unit_value, is_octal, octal_value, escaped_byte, IsOpenEnd, Piece, White}
+use Rattle.po_text.proofs.Kit.{Comment, Word, OpenBracket, CloseBracket, Quoted, PieceAt, is_white, is_word_byte}
+use Rattle.po_text.proofs.Kit.{is_not_line_end, word_token, HasFault, Spells, Lexeme, lexemes, line_of, Entry, Derives}
+use Rattle.po_text.proofs.Kit.{all_tokens, IsOpenList, ClosesBy, Start, Reads, IsFaulty, body, Gives}
+use Rattle.std.proofs.lemmas.Bool.{cases_lt}
+use Rattle.po_text.specs.declared.fault.PoKind.TheVariants.{TooLarge, NotUtf8, BadEscape, BadWord, BadIndex}
+use Rattle.po_text.specs.Spelling.{octal_run, IsBadEscape, FaultAt}
+use Rattle.po_text.specs.Outcome.{HasGrammarFault, IsReadable, Refuses}
 use Rattle.po_text.proofs.Chains.{Chain-append}
 use Rattle.po_text.proofs.UnitLemmas.{UnitsAt-nil, UnitsAt-cons, octal_take, octal_some, octal_unit, open_at_line_end}
 use Rattle.po_text.proofs.OpenLists.{taken_open}
@@ -58,7 +52,7 @@ slash_next : (more : List ℕ) → BeginsUnit (92 ∷ more) ⊎ EndsUnits (92 �
 slash_next [] = inr (inr (inr (inr refl)))
 slash_next (c ∷ more) = elim (cases_Bool (is_octal c)) [
   | inl octal ↦ octal_next c more octal
-  | inr other ↦ elim (option_cases (escaped c)) [
+  | inr other ↦ elim (option_cases (escaped_byte c)) [
     | inr (v, e) ↦ inl (record { unit = Escape c v; rest = more; at = (refl, e); shorter = omega arith })
     | inl none ↦ elim (cases_eq c 10) [
       | inl e ↦ inr (inr (inr (inr (refl, e))))

@@ -1,25 +1,20 @@
 -- Tokens taken by the parser, one after another.
-use Rattle.std.proofs.Common.{◌≡◌, ℕ, Bool, true, false, List, [], ◌∷◌, ◌++◌, map, Option}
-use Rattle.std.proofs.Common.{Some, None, refl, sym, ap, ◌∙◌, subst, inl, inr, append_assoc}
-use Rattle.std.specs.Prelude.{◌⊎◌}
-use Rattle.std.specs.Option.{option_map}
-use Rattle.po_text.specs.declared.flags.Flags.{Flags}
+use Rattle.po_text.proofs.Kit.{◌≡◌, ℕ, Bool, true, false, List, [], ◌∷◌, ◌++◌, map, Option, Some, None, refl, sym, ap}
+use Rattle.po_text.proofs.Kit.{◌∙◌, subst, inl, inr, append_assoc, ◌⊎◌, option_map, Flags, PoKind, Token, Context, Id}
+use Rattle.po_text.proofs.Kit.{Mark, Lexeme, Spells, Entry, Derives, ClosesAt, Stage, Start, ContextWord}
+use Rattle.po_text.proofs.Kit.{IdWord, stage_view, IsBoundary, flags_over, no_flags, Draft}
+use Rattle.po_text.proofs.Kit.{draft_of, begin, State, at_state, drafts_at, opens, opens_id, after, start, some_if}
+use Rattle.po_text.proofs.Kit.{HasEnd, token_view, gap_marks, HasParsed, Reads, IsFaulty, BadOrder}
 use Rattle.po_text.specs.declared.lexer.Token as code_token
 use Rattle.po_text.specs.declared.stages.Stage as code
 use Rattle.po_text.specs.declared.stages.Stage.TheVariants as stages
-use Rattle.po_text.specs.declared.fault.PoKind.{PoKind}
-use Rattle.po_text.specs.Spelling.{Token, Context, Id, Mark, Lexeme, Spells}
-use Rattle.po_text.specs.Entries.{Entry, Derives, ClosesAt, EndsEarly}
-use Rattle.po_text.specs.Stages.{Stage, Start, ContextWord, ContextText, IdWord}
-use Rattle.po_text.specs.Stages.{FormText, IndexedText, step, stage_view, IsBoundary}
-use Rattle.po_text.specs.Building.{flags_over, no_flags, Draft, draft_of, begin, State, at_state}
-use Rattle.po_text.specs.Building.{drafts_at, opens, opens_id, after, feed_at, start, some_if}
-use Rattle.po_text.specs.Lexing.{HasNext, HasEnd, token_view, gap_marks}
-use Rattle.po_text.specs.Parsing.{HasTaken, is_context_word, ParsesOn, HasParsed, HasTakenTo}
-use Rattle.po_text.specs.Parsing.{pending, EndsRight, Refused, refusal}
-use Rattle.po_text.specs.Outcome.{Reads, IsFaulty}
+use Rattle.po_text.specs.Entries.{EndsEarly}
+use Rattle.po_text.specs.Stages.{step}
+use Rattle.po_text.specs.Building.{feed_at}
+use Rattle.po_text.specs.Lexing.{HasNext}
+use Rattle.po_text.specs.Parsing.{HasTaken, is_context_word, ParsesOn, HasTakenTo}
+use Rattle.po_text.specs.Parsing.{pending_draft, EndsRight, Refused, refusal}
 use Rattle.po_text.specs.declared.fault.PoFault.{PoFault}
-use Rattle.po_text.specs.declared.fault.PoKind.TheVariants.{BadOrder}
 use Rattle.po_text.specs.Lawful.{HasItsForms}
 use Rattle.po_text.proofs.Lawful.{derived_forms}
 use Rattle.po_text.proofs.Drafts.{split_last, snoc_drafts, draft_one, drafts_one}
@@ -33,18 +28,13 @@ use Rattle.po_text.proofs.Feeding.{feeds-over, put_together}
 opens_with_context : (p q : Stage) → step p Context ≡ Some q → IsBoundary p × (q ≡ ContextWord)
 unfolding step
 opens_with_context Start q e = (tt, sym (cc e))
-opens_with_context FormText q e = (tt, sym (cc e))
-opens_with_context (IndexedText k) q e = (tt, sym (cc e))
-opens_with_context p q e = absurd (cc e)
+opens_with_context _ q e = (first_of (cc e, search), sym (cc e))
 
 opens_with_id : (p q : Stage) (c : Option (List ℕ)) → step p Id ≡ Some q → opens_id p ≡ Some c → IsBoundary p
     × (q ≡ IdWord) × (c ≡ None)
 unfolding step
 opens_with_id Start q c e f = (tt, sym (cc e), sym (cc f))
-opens_with_id FormText q c e f = (tt, sym (cc e), sym (cc f))
-opens_with_id (IndexedText k) q c e f = (tt, sym (cc e), sym (cc f))
-opens_with_id ContextText q c e f = absurd (cc f)
-opens_with_id p q c e f = absurd (cc e)
+opens_with_id _ q c e f = (first_of (cc (e, f), search), sym (cc (e, f)), sym (cc (e, f)))
 
 pub opens_to : (p : Stage) (t : Token) (q : Stage) (c : Option (List ℕ)) → step p t ≡ Some q → opens t p ≡ Some c
     → IsBoundary p × (((q ≡ ContextWord) × (c ≡ Some [])) ⊎ ((q ≡ IdWord) × (c ≡ None)))
@@ -140,12 +130,12 @@ pub opening_goes_on : (text : List ℕ) (entries : List Entry) (line : ℕ) (res
     (f : Flags) (k : ℕ) (new : Parser)
     → HasTaken text line rest (at_state p (map draft_of entries) (draft_of e) f k) → IsBoundary p
     → drafts_at p (map draft_of entries) (draft_of e) ≡ map draft_of entries ++ (draft_of e ∷ [])
-    → HasTakenTo text (map draft_of entries ++ (draft_of e ∷ [])) (pending new) new → new.finished ≡ false
+    → HasTakenTo text (map draft_of entries ++ (draft_of e ∷ [])) (pending_draft new) new → new.finished ≡ false
     → ParsesOn true text entries e new
 opening_goes_on text entries line rest p e f k new h b last taken finished = (
   under_way_forms text entries line rest p e f k h b last,
   record {
-    under_way = λ not_finished. subst (λ (x : List Draft). HasTakenTo text x (pending new) new)
+    under_way = λ not_finished. subst (λ (x : List Draft). HasTakenTo text x (pending_draft new) new)
         (sym (snoc_drafts entries e (draft_of e) refl)) taken;
     at_end = λ done. true_false new.finished done finished;
   },

@@ -1,12 +1,10 @@
 -- A text is read in one way, units and pieces alike, up to where none begins.
-use Rattle.std.proofs.Common.{◌≡◌, ◌≢◌, ℕ, ◌≤◌, true, false, List, [], ◌∷◌, ◌++◌, map}
-use Rattle.std.proofs.Common.{Some, None, refl, sym, ap, ◌∙◌, subst, arith, inl, inr}
-use Rattle.std.proofs.lemmas.Bool.{ne_eqb, cases_Bool}
+use Rattle.po_text.proofs.Kit.{◌≡◌, ◌≢◌, ℕ, ◌≤◌, true, false, List, [], ◌∷◌, ◌++◌, map, Some, None, refl, sym, ap, ◌∙◌}
+use Rattle.po_text.proofs.Kit.{subst, arith, inl, inr, ne_eqb, cases_Bool, Chain, StringUnit, Plain, Escape, Octal}
+use Rattle.po_text.proofs.Kit.{UnitAt, UnitsAt, unit_value, is_plain, is_octal, escaped_byte}
 use Rattle.std.proofs.lemmas.List.{append_cancel_left}
 use Rattle.std.proofs.lemmas.Bool.Decides.{nat_tests}
-use Rattle.byte_text.specs.Chain.{Chain}
-use Rattle.po_text.specs.Spelling.{StringUnit, Plain, Escape, Octal, UnitAt, UnitsAt}
-use Rattle.po_text.specs.Spelling.{unit_value, is_plain, is_octal, octal_run, escaped}
+use Rattle.po_text.specs.Spelling.{octal_run}
 
 -- no step can be made from s
 abbrev pub Stops : {A S : Type 0} → (A → S → S → Type 0) → S → Type 0
@@ -44,7 +42,7 @@ plain_no_slash b s m t e plain f =
     let h : is_plain 92 ≡ true = rw g at plain in
     absurd (cc h)
 
-pub octal_no_escape : (c : ℕ) → is_octal c ≡ true → escaped c ≡ None
+pub octal_no_escape : (c : ℕ) → is_octal c ≡ true → escaped_byte c ≡ None
 octal_no_escape c e =
     let low : 48 ≤ c = omega (arith, octal_low c e) in
     let high : c ≤ 55 = omega (arith, octal_high c e) in
@@ -66,7 +64,8 @@ pub octal_run-none : (c : ℕ) (m : List ℕ) → is_octal c ≡ false → octal
 unfolding octal_run
 octal_run-none c m e = rw e refl
 
-escape_no_octal : (c v : ℕ) (m digits n : List ℕ) → escaped c ≡ Some v → c ∷ m ≡ digits ++ n → octal_run (digits ++ n)
+escape_no_octal : (c v : ℕ) (m digits n : List ℕ) → escaped_byte c ≡ Some v → c ∷ m ≡ digits ++ n
+    → octal_run (digits ++ n)
     ≡ digits → digits ≢ [] → ⊥
 escape_no_octal c v m digits n e split run some = elim (cases_Bool (is_octal c)) [
   | inl is ↦ let none = octal_no_escape c is in absurd (cc (e, none))
@@ -86,7 +85,7 @@ Unit-one (Plain b) (Octal digits) s m n p q = absurd (plain_no_slash b s m (digi
 Unit-one (Escape c v) (Plain b) s m n p q = absurd (plain_no_slash b s n (c ∷ m) q.0 q.1 p.0)
 Unit-one (Escape c v) (Escape c' v') s m n p q =
     let e = p.0 in let f = q.0 in let same : c ≡ c' = cc (e, f) in
-    let value : v ≡ v' = let g = p.1 in let h = q.1 in let k = ap escaped same in cc (g, h, k) in
+    let value : v ≡ v' = let g = p.1 in let h = q.1 in let k = ap escaped_byte same in cc (g, h, k) in
     (cc (same, value), cc (e, f))
 Unit-one (Escape c v) (Octal digits) s m n p q = let e = p.0 in let f = q.0 in absurd
     (escape_no_octal c v m digits n p.1 (cc (e, f)) q.1 q.2)

@@ -1,17 +1,15 @@
 -- Units of a string, one after another.
-use Rattle.std.proofs.Common.{◌≡◌, ℕ, zero, suc, ◌<◌, ◌≤◌, true, false, List, [], ◌∷◌, ◌++◌, length}
-use Rattle.std.proofs.Common.{get_or, take, drop, refl, sym, ap, ◌∙◌, arith, append_assoc, one-add, min, inl, inr}
+use Rattle.po_text.proofs.Kit.{◌≡◌, ℕ, zero, suc, ◌<◌, ◌≤◌, true, false, List, [], ◌∷◌, ◌++◌, length, get_or, take}
+use Rattle.po_text.proofs.Kit.{drop, refl, sym, ap, ◌∙◌, arith, append_assoc, one-add, inl, inr, Result, Ok, Err, IfOk}
+use Rattle.po_text.proofs.Kit.{cases_eq, ne_eqb, StringUnit, Plain, UnitAt, UnitsAt, unit_value, is_plain, Octal}
+use Rattle.po_text.proofs.Kit.{is_octal, octal_value, IsOpenEnd, PoKind, prefix_len, prefix_len-le-length, map-append}
+use Rattle.std.proofs.Common.{min}
 use denote.Ref.{Bor}
-use Rattle.std.specs.Prelude.{Result, Ok, Err, IfOk, IfErr}
-use Rattle.std.proofs.lemmas.Bool.{cases_eq, ne_eqb}
-use Rattle.po_text.specs.Spelling.{StringUnit, Plain, UnitAt, UnitsAt, unit_value, is_plain}
-use Rattle.po_text.specs.Spelling.{Octal, is_octal, octal_run, octal_value, IsOpenEnd}
+use Rattle.std.specs.Prelude.{IfErr}
+use Rattle.po_text.specs.Spelling.{octal_run}
 use Rattle.po_text.specs.Lexing.{TakesUnits, ReadsUnit, StopsBadly, UnitsFail}
-use Rattle.po_text.specs.declared.fault.PoKind.{PoKind}
-use Rattle.std.specs.List.{prefix_len}
-use Rattle.std.proofs.lemmas.List.Sums.{prefix_len-le-length}
 use Rattle.po_text.proofs.Chains.{Chain-append}
-use Rattle.std.proofs.lemmas.List.{map-append, length-take, take-take, take_min}
+use Rattle.std.proofs.lemmas.List.{length-take, take-take, take_min}
 
 pub UnitsAt-nil : (text : List ℕ) → UnitsAt [] text text
 UnitsAt-nil text = record { units = []; each = refl; values_are = refl }

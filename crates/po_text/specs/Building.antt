@@ -84,15 +84,15 @@ begin line flags context = record {
   starts = [];
 }
 
-abbrev pub grown : Option (List ℕ) → List ℕ → Option (List ℕ)
-grown None bytes = None
-grown (Some old) bytes = Some (old ++ bytes)
+abbrev pub with_bytes : Option (List ℕ) → List ℕ → Option (List ℕ)
+with_bytes None bytes = None
+with_bytes (Some old) bytes = Some (old ++ bytes)
 
 abbrev pub add_context : Draft → List ℕ → Draft
 add_context d bytes = record {
   lines = d.lines;
   flags = d.flags;
-  context = grown d.context bytes;
+  context = with_bytes d.context bytes;
   id = d.id;
   plural = d.plural;
   flat = d.flat;
@@ -116,7 +116,7 @@ add_plural d bytes = record {
   flags = d.flags;
   context = d.context;
   id = d.id;
-  plural = grown d.plural bytes;
+  plural = with_bytes d.plural bytes;
   flat = d.flat;
   starts = d.starts;
 }
@@ -144,9 +144,9 @@ new_plural d = record {
 }
 
 -- the lines of an entry after a `msgstr` on this line
-abbrev pub noted : Stage → ℕ → Lines → Lines
-noted (IndexedText k) line old = old
-noted _ line old = record { entry = old.entry; form = line }
+abbrev pub lines_with_form : Stage → ℕ → Lines → Lines
+lines_with_form (IndexedText k) line old = old
+lines_with_form _ line old = record { entry = old.entry; form = line }
 
 abbrev pub new_form : Lines → Draft → Draft
 new_form lines d = record {
@@ -173,7 +173,7 @@ put_text _ bytes d = add_form d bytes
 abbrev pub put : Token → ℕ → Stage → Draft → Draft
 put (Text bytes) line p d = put_text p bytes d
 put Plural line p d = new_plural d
-put Str line p d = new_form (noted p line d.lines) d
+put Str line p d = new_form (lines_with_form p line d.lines) d
 put _ line p d = d
 
 -- the state of the parser: what it has read so far

@@ -23,9 +23,9 @@ is_context kinds.Context = true
 is_context _ = false
 
 -- what `opens` says of this token, if it opens an entry or if it doesn't
-abbrev pub opened : Bool → code_token.Token → Option (Option (List ℕ))
-opened true t = Some (some_if (is_context t) [])
-opened false t = None
+abbrev pub context_opened : Bool → code_token.Token → Option (Option (List ℕ))
+context_opened true t = Some (some_if (is_context t) [])
+context_opened false t = None
 
 abbrev pub is_context_word : code.Stage → Bool
 is_context_word stages.ContextWord = true
@@ -36,8 +36,8 @@ abbrev pub state_with : Parser → Draft → List Draft → State
 state_with r d done = at_state (stage_view r.stage r.count) done d r.lexer.flags r.keyword_line
 
 -- the entry whose opening keyword was read, as it begins
-abbrev pub pending : Parser → Draft
-pending r = begin r.line r.entry_flags (some_if (is_context_word r.stage) [])
+abbrev pub pending_draft : Parser → Draft
+pending_draft r = begin r.line r.entry_flags (some_if (is_context_word r.stage) [])
 
 abbrev pub StartTest : Bool → Stage → Type 0
 StartTest true p = p ≡ Start
@@ -61,7 +61,7 @@ HasTakenTo text done d r = HasTaken text r.lexer.line r.lexer.rest.now (state_wi
 
 -- the parser has read these entries of the text
 pub record HasParsed (text : List ℕ) (entries : List Entry) (r : Parser) : Type 0 where
-  pub under_way : r.finished ≡ false → HasTakenTo text (map draft_of entries) (pending r) r
+  pub under_way : r.finished ≡ false → HasTakenTo text (map draft_of entries) (pending_draft r) r
   pub at_end : r.finished ≡ true → Reads text entries
 
 abbrev pub is_opening : code.Stage → Bool
@@ -96,7 +96,7 @@ TakesToken true done t line old old_entry new entry =
     ≡ done ++ (draft_of old_entry ∷ []))
     × (entry ≡ old_entry)
     × (feed_at (state_with old (draft_of old_entry) done) [] line t
-    ≡ Some (state_with new (pending new) (done ++ (draft_of old_entry ∷ []))))
+    ≡ Some (state_with new (pending_draft new) (done ++ (draft_of old_entry ∷ []))))
 TakesToken false done t line old old_entry new entry =
     feed_at (state_with old (draft_of old_entry) done) [] line t ≡ Some (state_with new (draft_of entry) done)
 

@@ -2,9 +2,9 @@
 -- and 6.4.5: escapes in strings).
 
 -- Rules of our own, which neither document has, are marked (ours).
-use Rattle.std.specs.Prelude.{◌≡◌, ◌≢◌, ℕ, ◌+◌, ◌-◌, ◌*◌, ◌<◌, ◌≤◌, Bool, true}
-use Rattle.std.specs.Prelude.{false, not, ◌&&◌, ◌||◌, ◌==◌, nat_le, if◌then◌else◌, List, [], ◌∷◌}
-use Rattle.std.specs.Prelude.{◌++◌, map, length, take, Option, None, Some, ◌⊎◌, codes}
+pub use Rattle.byte_text.specs.Characters.{comma, open_bracket, backslash, close_bracket, underscore, tilde}
+use Rattle.std.specs.Prelude.{◌≡◌, ◌≢◌, ℕ, ◌+◌, ◌-◌, ◌*◌, ◌<◌, ◌≤◌, Bool, true, false, not, ◌&&◌, ◌||◌, ◌==◌, nat_le}
+use Rattle.std.specs.Prelude.{if◌then◌else◌, List, [], ◌∷◌, ◌++◌, map, length, take, Option, None, Some, ◌⊎◌, codes}
 use Rattle.std.specs.List.{take_while, slice_split, fold, count_by, Contains, list_all}
 use Rattle.std.specs.Str.{IsUtf8, bytes_eq}
 use Rattle.std.specs.Char.{is_ascii_alphanumeric, is_ascii_digit}
@@ -25,29 +25,6 @@ quote = 34
 -- `#`
 abbrev pub number_sign : ℕ
 number_sign = 35
-
--- `,`
-abbrev pub comma : ℕ
-comma = 44
-
--- `[`
-abbrev pub open_bracket : ℕ
-open_bracket = 91
-
-abbrev pub backslash : ℕ
-backslash = 92
-
--- `]`
-abbrev pub close_bracket : ℕ
-close_bracket = 93
-
--- `_`
-abbrev pub underscore : ℕ
-underscore = 95
-
--- `~`
-abbrev pub tilde : ℕ
-tilde = 126
 
 -- white space: tab, LF, VT, FF, CR, space (C 5.2.1, 6.4; that a lone CR ends no line is ours)
 abbrev pub is_white : ℕ → Bool
@@ -72,8 +49,8 @@ is_not_line_end b = not (b == line_feed)
 
 -- the byte that a backslash and this letter stand for: n t b r f v a, a backslash and a quote (C 6.4.4.4, without `\'`,
 -- `\?` and `\x`)
-abbrev pub escaped : ℕ → Option ℕ
-escaped c =
+abbrev pub escaped_byte : ℕ → Option ℕ
+escaped_byte c =
     if c == 110 then Some 10 else
     if c == 116 then Some 9 else
     if c == 98 then Some 8 else
@@ -105,7 +82,7 @@ unit_value (Octal digits) = octal_value digits
 -- the text is the unit followed by the rest; an octal escape takes as many digits as it can, and is at most 255 (ours)
 abbrev pub UnitAt : StringUnit → List ℕ → List ℕ → Type 0
 UnitAt (Plain b) text rest = (text ≡ b ∷ rest) × (is_plain b ≡ true)
-UnitAt (Escape c v) text rest = (text ≡ backslash ∷ c ∷ rest) × (escaped c ≡ Some v)
+UnitAt (Escape c v) text rest = (text ≡ backslash ∷ c ∷ rest) × (escaped_byte c ≡ Some v)
 UnitAt (Octal digits) text rest =
     (text ≡ backslash ∷ digits ++ rest) × (octal_run (digits ++ rest) ≡ digits) × (digits ≢ [])
     × (octal_value digits ≤ 255)
@@ -120,7 +97,7 @@ pub record UnitsAt (values text rest : List ℕ) : Type 0 where
 abbrev pub IsBadEscape : List ℕ → Type 0
 IsBadEscape text =
     ((c : ℕ) × (more : List ℕ) × (text ≡ backslash ∷ c ∷ more) × (c ≢ line_feed) × (is_octal c ≡ false)
-    × (escaped c ≡ None))
+    × (escaped_byte c ≡ None))
     ⊎ ((more : List ℕ) × (text ≡ backslash ∷ more) × (255 < octal_value (octal_run more)))
 
 -- the line or the text ends here, perhaps after a backslash (C 6.4.5: a string is on one line)

@@ -34,16 +34,16 @@ abbrev pub has_four : List ℕ → Bool
 has_four bytes = list_any (nat_eq 4) bytes
 
 -- the stage after a token that opens an entry
-abbrev pub opening : Token → Option Stage
-opening Context = Some ContextWord
-opening Id = Some IdWord
-opening t = None
+abbrev pub opened_stage : Token → Option Stage
+opened_stage Context = Some ContextWord
+opened_stage Id = Some IdWord
+opened_stage t = None
 
 abbrev pub key_text : List ℕ → Stage → Option Stage
 key_text bytes p = if has_four bytes then None else Some p
 
 unfoldable pub step : Stage → Token → Option Stage
-step Start t = opening t
+step Start t = opened_stage t
 step ContextWord (Text bytes) = key_text bytes ContextText
 step ContextWord t = None
 step ContextText (Text bytes) = key_text bytes ContextText
@@ -58,7 +58,7 @@ step IdText t = None
 step FormWord (Text bytes) = Some FormText
 step FormWord t = None
 step FormText (Text bytes) = Some FormText
-step FormText t = opening t
+step FormText t = opened_stage t
 step PluralWord (Text bytes) = Some PluralText
 step PluralWord t = None
 step PluralText (Text bytes) = Some PluralText
@@ -74,7 +74,7 @@ step (IndexedWord k) (Text bytes) = Some (IndexedText k)
 step (IndexedWord k) t = None
 step (IndexedText k) (Text bytes) = Some (IndexedText k)
 step (IndexedText k) Str = Some (IndexOpen (k + 1))
-step (IndexedText k) t = opening t
+step (IndexedText k) t = opened_stage t
 
 -- the specification's stage for the code's stage, if k forms of the entry are complete
 abbrev pub stage_view : code.Stage → ℕ → Stage

@@ -3,7 +3,7 @@ ghost use Rattle.std.specs.Prelude.{◌≡◌, ℕ, ◌+◌, ◌-◌, ◌<◌, �
 ghost use Rattle.std.specs.Prelude.{take, OnOk, IfOk, Some, map, slice_get, slice_index, string_bytes};
 ghost use Rattle.std.specs.Option.{option_map};
 ghost use Rattle.std.specs.Str.{IsUtf8};
-ghost use Rattle.po_text.specs.Building.{begin, draft_of, first_or, noted, put, put_text, some_if};
+ghost use Rattle.po_text.specs.Building.{begin, draft_of, first_or, lines_with_form, put, put_text, some_if};
 ghost use Rattle.po_text.specs.Entries.{no_entry};
 ghost use Rattle.po_text.specs.Lawful.{IsLawfulTexts};
 ghost use Rattle.po_text.specs.Lexing.{token_view};
@@ -94,7 +94,7 @@ fn form_bounds(starts: &[usize], end: usize, k: usize) -> (usize, usize)
 
 /// The lines of an entry after a `msgstr` on this line.
 fn lines_after(stage: Stage, line: u32, lines: Lines) -> Lines
-    ensures { (k : ℕ) → result ≡ noted (stage_view stage k) line lines }
+    ensures { (k : ℕ) → result ≡ lines_with_form (stage_view stage k) line lines }
 {
     match stage {
         Stage::IndexedText => lines,

@@ -1,9 +1,9 @@
 //! The grammar of entries: the stages in it, and where each token leads.
 ghost use Rattle.std.specs.Prelude.{List, ◌≡◌, ℕ, ◌+◌, ◌<◌, ◌≤◌, ◌^◌};
 ghost use Rattle.po_text.specs.Lexing.{token_view};
-ghost use Rattle.po_text.specs.Stages.{step, stage_view, has_four, opening, next_count};
+ghost use Rattle.po_text.specs.Stages.{step, stage_view, has_four, opened_stage, next_count};
 ghost use Rattle.po_text.specs.Building.{opens};
-ghost use Rattle.po_text.specs.Parsing.{opened};
+ghost use Rattle.po_text.specs.Parsing.{context_opened};
 ghost use Rattle.std.specs.Option.{option_map};
 
 use crate::lexer::Token;
@@ -49,7 +49,7 @@ pub(crate) fn forms_after(stage: Stage, token: Token, forms: u32) -> u32
 /// Whether the token, which is allowed at this stage, opens an entry.
 pub(crate) fn opens_entry(stage: Stage, token: Token) -> bool
     ensures { (bytes : List ℕ) (k : ℕ) →
-        opens (token_view token bytes) (stage_view stage k) ≡ opened result token }
+        opens (token_view token bytes) (stage_view stage k) ≡ context_opened result token }
 {
     match (stage, token) {
         (_, Token::Context) => true,

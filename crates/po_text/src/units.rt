@@ -3,7 +3,7 @@ ghost use Rattle.std.specs.Prelude.{◌≢◌, ◌≡◌, ℕ, ◌+◌, ◌-◌,
 ghost use Rattle.std.specs.Prelude.{◌∷◌, List, Bool, length, IfOk, IfErr, IsTrue, MatchOption, []};
 ghost use Rattle.std.specs.List.{prefix_len};
 ghost use Rattle.po_text.specs.declared.fault.PoKind.TheVariants.{Memory};
-ghost use Rattle.po_text.specs.Spelling.{escaped, is_octal, octal_run, octal_value, is_plain, UnitsAt};
+ghost use Rattle.po_text.specs.Spelling.{escaped_byte, is_octal, octal_run, octal_value, is_plain, UnitsAt};
 ghost use Rattle.po_text.specs.Lexing.{StopsPlain, ReadsUnit, StopsBadly, UnitsFail, TakesUnits};
 
 use crate::fault::PoKind;
@@ -12,7 +12,7 @@ use byte_text::split_byte;
 
 /// The byte that a backslash followed by this letter means.
 fn escape_value(letter: u8) -> Option<u8>
-    ensures { result ≡ escaped letter }
+    ensures { result ≡ escaped_byte letter }
 {
     match letter {
         b'n' => Some(b'\n'),

@@ -1,7 +1,5 @@
-use Rattle.std.proofs.Common.{rules}
+use Rattle.catalogue.proofs.Kit.{rules, IsLawfulEntry, message_entry}
 use Rattle.std.proofs.lemmas.Iterator.{cases_from_all, YieldsList-from_slice}
-use Rattle.mo_image.specs.Entry.{IsLawfulEntry}
-use Rattle.catalogue.specs.Messages.{message_entry}
 use Rattle.catalogue.proofs.Accepting.{each_decided}
 use Rattle.catalogue.proofs.accepts.are_lawful.Goals as goal
 

@@ -1,5 +1,4 @@
-use Rattle.std.proofs.Common.{sym, ◌∙◌}
-use Rattle.std.proofs.lemmas.Bool.{false≢true}
+use Rattle.catalogue.proofs.Kit.{sym, ◌∙◌, false≢true}
 use Rattle.catalogue.proofs.accepts.has_lawful_forms.Goals as goal
 
 pub returns-else-are_texts : goal.returns-else-are_texts

@@ -1,6 +1,4 @@
-use Rattle.std.proofs.Common.{◌≡◌, ◌++◌, take}
-use Rattle.std.specs.String.{string_bytes}
-use Rattle.std.specs.List.{join_with_byte}
+use Rattle.catalogue.proofs.Kit.{◌≡◌, ◌++◌, take, string_bytes, join_with_byte}
 use Rattle.catalogue.proofs.collect.add_forms.Given as goal
 
 abbrev pub invariant-forms : goal.invariant-forms

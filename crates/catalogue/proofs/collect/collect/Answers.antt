@@ -1,9 +1,8 @@
-use Rattle.std.proofs.Common.{inl, inr, ap}
+use Rattle.catalogue.proofs.Kit.{inl, inr, ap, kind_of}
 use Rattle.std.proofs.lemmas.Result.{err_from_is_err_and}
 use Rattle.po_text.specs.Outcome.{body}
 use Rattle.po_text.proofs.Outcomes.{faulty_refuses}
 use Rattle.po_text.specs.declared.fault.PoFault.{PoFault}
-use Rattle.po_checks.specs.Refusal.{kind_of}
 use Rattle.po_checks.specs.declared.fault.LoadFault.{LoadFault}
 use Rattle.catalogue.proofs.Collecting.{collects_none, collects_more, collects_all, text_refuses}
 use Rattle.catalogue.proofs.collect.collect.Goals as goal

@@ -1,5 +1,4 @@
-use Rattle.std.proofs.Common.{inr, sym, ◌∙◌}
-use Rattle.std.proofs.lemmas.Bool.{false≢true}
+use Rattle.catalogue.proofs.Kit.{inr, sym, ◌∙◌, false≢true}
 use Rattle.po_header.specs.Rules.{rule_of}
 use Rattle.catalogue.proofs.Compiling.{few, refused, foreign, failed, lawful_map, map_rule, compiles}
 use Rattle.catalogue.proofs.Fitting.{spans_fit, texts_fit}

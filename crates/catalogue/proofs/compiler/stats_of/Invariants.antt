@@ -1,7 +1,4 @@
-use Rattle.std.proofs.Common.{◌≡◌, ◌≤◌, take}
-use Rattle.std.specs.List.{count_by}
-use Rattle.catalogue.specs.Drafts.{counts_as, outline}
-use Rattle.catalogue.specs.declared.body.Standing.TheVariants.{Untranslated, Fuzzy, Translated}
+use Rattle.catalogue.proofs.Kit.{◌≡◌, ◌≤◌, take, count_by, counts_as, outline, Untranslated, Fuzzy, Translated}
 use Rattle.catalogue.proofs.compiler.stats_of.Given as goal
 
 abbrev pub invariant-drafts : goal.invariant-drafts

@@ -1,7 +1,5 @@
-use Rattle.std.proofs.Common.{Option, ap, ◌∙◌}
-use Rattle.std.specs.Prelude.{option_map}
-use Rattle.catalogue.specs.Drafts.{outline, text_found}
-use Rattle.catalogue.specs.declared.drafts.Draft.{Draft}
+use Rattle.catalogue.proofs.Kit.{Option, ap, ◌∙◌, option_map, outline, Draft}
+use Rattle.catalogue.specs.Drafts.{text_found}
 use Rattle.catalogue.proofs.drafts.header_text.Goals as goal
 
 pub returns-in-Some : goal.returns-in-Some

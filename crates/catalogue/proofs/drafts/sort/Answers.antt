@@ -1,6 +1,5 @@
-use Rattle.std.proofs.Common.{rules}
+use Rattle.catalogue.proofs.Kit.{rules, comes_before}
 use Rattle.std.proofs.lemmas.List.Sorted.{answers_always}
-use Rattle.catalogue.specs.Drafts.{comes_before}
 use Rattle.catalogue.proofs.OutlineOrder.{draft_order}
 use Rattle.catalogue.proofs.drafts.sort.Goals as goal
 

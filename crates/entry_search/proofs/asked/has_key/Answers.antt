@@ -1,7 +1,4 @@
-use Rattle.std.proofs.Common.{List, ℕ, Some, ap, sym, ◌∙◌}
-use Rattle.std.specs.Prelude.{option_map}
-use Rattle.std.specs.Str.{bytes_eq}
-use Rattle.mo_image.specs.Entry.{key, key_bytes}
+use Rattle.entry_search.proofs.Kit.{List, ℕ, Some, ap, sym, ◌∙◌, option_map, bytes_eq, key, key_bytes}
 use Rattle.entry_search.proofs.asked.has_key.Goals as goal
 
 pub returns-in-Some : goal.returns-in-Some

@@ -1,7 +1,5 @@
-use Rattle.std.proofs.Common.{List, ℕ, ap, sym, subst}
-use Rattle.std.specs.Prelude.{option_map}
-use Rattle.mo_image.specs.Entry.{key_bytes}
-use Rattle.entry_search.specs.Index.{hash_alone, hash_within, FindsBy}
+use Rattle.entry_search.proofs.Kit.{List, ℕ, ap, sym, subst, option_map, key_bytes, hash_alone, hash_within}
+use Rattle.entry_search.specs.Index.{FindsBy}
 use Rattle.entry_search.proofs.Found.{finds_alone, finds_within}
 use Rattle.entry_search.proofs.asked.hash_of.Goals as goal
 

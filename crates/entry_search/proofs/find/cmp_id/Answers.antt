@@ -1,5 +1,4 @@
-use Rattle.std.proofs.Common.{sym, ◌∙◌}
-use Rattle.std.proofs.lemmas.Bool.{false≢true}
+use Rattle.entry_search.proofs.Kit.{sym, ◌∙◌, false≢true}
 use Rattle.mo_image.proofs.Originals.{cmp_by_original}
 use Rattle.entry_search.proofs.find.cmp_id.Goals as goal
 

@@ -1,7 +1,5 @@
-use Rattle.std.proofs.Common.{◌≡◌, Bor, List, ℕ, true, sym, ◌∙◌}
-use Rattle.std.specs.Prelude.{option_map}
-use Rattle.std.specs.Str.{bytes_eq}
-use Rattle.mo_image.specs.Entry.{key, key_bytes}
+use Rattle.entry_search.proofs.Kit.{◌≡◌, List, ℕ, true, sym, ◌∙◌, option_map, bytes_eq, key, key_bytes}
+use Rattle.std.proofs.Common.{Bor}
 use Rattle.entry_search.proofs.Found.{found_by_slot}
 use Rattle.entry_search.proofs.find.entry_at_slot.Goals as goal
 

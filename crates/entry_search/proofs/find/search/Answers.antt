@@ -1,7 +1,6 @@
-use Rattle.std.proofs.Common.{◌<◌, length, sym, ◌∙◌, arith}
+use Rattle.entry_search.proofs.Kit.{◌<◌, length, sym, ◌∙◌, arith, Equal}
 use Rattle.entry_search.proofs.Searching.{goes_up, goes_down, cost_here, cost_there, found_equal, missing, order_at}
 use Rattle.entry_search.proofs.Searching.{some_at}
-use Rattle.std.specs.declared.cmp.Ordering.TheVariants.{Equal}
 use Rattle.entry_search.proofs.find.search.Goals as goal
 
 pub halves-preserved-in-Less : goal.halves-preserved-in-Less

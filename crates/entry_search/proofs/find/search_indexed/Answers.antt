@@ -1,6 +1,4 @@
-use Rattle.std.proofs.Common.{◌≡◌, true, length, sym, ◌∙◌, arith}
-use Rattle.std.specs.Str.{bytes_eq}
-use Rattle.mo_image.specs.Entry.{key}
+use Rattle.entry_search.proofs.Kit.{◌≡◌, true, length, sym, ◌∙◌, arith, bytes_eq, key}
 use Rattle.entry_search.proofs.Found.{absent_by_slot, absent_without_slot, found_by_slot, one_digit}
 use Rattle.entry_search.proofs.find.search_indexed.Goals as goal
 

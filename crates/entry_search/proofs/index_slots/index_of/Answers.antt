@@ -1,7 +1,5 @@
-use Rattle.std.proofs.Common.{List, ◌≡◌, ◌∙◌, ap, sym, subst}
-use Rattle.std.specs.Prelude.{Contains}
-use Rattle.entry_search.specs.declared.slot_table.Slot.{Slot}
-use Rattle.entry_search.specs.Index.{IndexValue, IsIndex, OneForEachHash}
+use Rattle.entry_search.proofs.Kit.{List, ◌≡◌, ◌∙◌, ap, sym, subst, Contains, Slot, IndexValue, IsIndex}
+use Rattle.entry_search.specs.Index.{OneForEachHash}
 use Rattle.entry_search.proofs.Indexing.{indexed}
 use Rattle.entry_search.proofs.index_slots.index_of.Goals as goal
 

@@ -1,5 +1,4 @@
-use Rattle.std.proofs.Common.{ℕ, List, ◌≡◌, length, subst, sym, arith}
-use Rattle.entry_search.specs.declared.slot_table.Slot.{Slot}
+use Rattle.entry_search.proofs.Kit.{ℕ, List, ◌≡◌, length, subst, sym, arith, Slot}
 use Rattle.entry_search.proofs.Indexing.{Listed, listed_more, listed_none, named}
 use Rattle.entry_search.proofs.index_slots.list_slots.Goals as goal
 

@@ -1,6 +1,4 @@
-use Rattle.std.proofs.Common.{List, ℕ, ap, sym, ◌∙◌}
-use Rattle.std.specs.Prelude.{option_map}
-use Rattle.entry_search.specs.Index.{hash_alone, hash_within}
+use Rattle.entry_search.proofs.Kit.{List, ℕ, ap, sym, ◌∙◌, option_map, hash_alone, hash_within}
 use Rattle.entry_search.proofs.Indexing.{adds_one, adds_two}
 use Rattle.entry_search.proofs.index_slots.push_slots.Goals as goal
 

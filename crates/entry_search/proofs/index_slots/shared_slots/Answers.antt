@@ -1,6 +1,4 @@
-use Rattle.std.proofs.Common.{◌+◌, List, ap, sym, subst}
-use Rattle.std.proofs.lemmas.List.{get_or_default}
-use Rattle.entry_search.specs.declared.slot_table.Slot.{Slot}
+use Rattle.entry_search.proofs.Kit.{◌+◌, List, ap, sym, subst, get_or_default, Slot}
 use Rattle.entry_search.proofs.Indexing.{Shared, own_hashes, shared_same, shared_more}
 use Rattle.entry_search.proofs.index_slots.shared_slots.Goals as goal
 use Rattle.entry_search.proofs.index_slots.shared_slots.Goals.{then-slots-i+in_ok-push, else-slots-i}

@@ -1,6 +1,5 @@
-use Rattle.std.proofs.Common.{rules}
+use Rattle.entry_search.proofs.Kit.{rules, Slot}
 use Rattle.std.proofs.lemmas.List.Sorted.{IsNonDecreasingBy-from_sort_by_key}
-use Rattle.entry_search.specs.declared.slot_table.Slot.{Slot}
 use Rattle.entry_search.proofs.Indexing.{named_in_order}
 use Rattle.entry_search.proofs.index_slots.sort_slots.Goals as goal
 

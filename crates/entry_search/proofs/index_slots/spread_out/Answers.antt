@@ -1,5 +1,4 @@
-use Rattle.std.proofs.Common.{◌+◌, get_or, refl, arith}
-use Rattle.std.proofs.lemmas.List.{get_or_default}
+use Rattle.entry_search.proofs.Kit.{◌+◌, get_or, refl, arith, get_or_default}
 use Rattle.entry_search.proofs.Indexing.{spread_more, spread_same}
 use Rattle.entry_search.proofs.index_slots.spread_out.Goals as goal
 

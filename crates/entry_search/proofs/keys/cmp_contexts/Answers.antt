@@ -1,5 +1,4 @@
-use Rattle.std.proofs.Common.{Some}
-use Rattle.mo_image.specs.Entry.{key_bytes}
+use Rattle.entry_search.proofs.Kit.{Some, key_bytes}
 use Rattle.entry_search.proofs.KeyOrder.{reversed}
 use Rattle.entry_search.proofs.keys.cmp_contexts.Goals as goal
 

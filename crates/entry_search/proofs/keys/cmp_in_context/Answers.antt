@@ -1,6 +1,5 @@
-use Rattle.std.proofs.Common.{ap, sym, ◌∙◌}
+use Rattle.entry_search.proofs.Kit.{ap, sym, ◌∙◌, Less}
 use Rattle.std.specs.Ordering.{ordering_then}
-use Rattle.std.specs.declared.cmp.Ordering.TheVariants.{Less}
 use Rattle.std.proofs.lemmas.List.{take_rest}
 use Rattle.mo_image.proofs.KeyParts.{cmp_shorter, cmp_parts}
 use Rattle.entry_search.proofs.keys.cmp_in_context.Goals as goal

@@ -1,9 +1,7 @@
-use Rattle.std.proofs.Common.{◌≡◌, ◌∷◌, ◌++◌, length, take, refl, sym, ap, ◌∙◌}
-use Rattle.std.proofs.lemmas.Bool.{false≢true}
+use Rattle.entry_search.proofs.Kit.{◌≡◌, ◌∷◌, ◌++◌, length, refl, sym, ap, ◌∙◌, false≢true, bytes_eq-Decides, bytes_eq}
+use Rattle.std.proofs.Common.{take}
 use Rattle.std.proofs.lemmas.Bool.Decides.{same_from_decides}
 use Rattle.std.proofs.lemmas.List.{append_cancel_left, take-append-drop, take_at}
-use Rattle.std.proofs.lemmas.Slice.Eq.{bytes_eq-Decides}
-use Rattle.std.specs.Str.{bytes_eq}
 use Rattle.entry_search.proofs.Found.{differs_unless}
 use Rattle.entry_search.proofs.keys.is_in_context.Goals as goal
 

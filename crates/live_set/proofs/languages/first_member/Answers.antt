@@ -1,6 +1,5 @@
-use Rattle.std.proofs.Common.{sym, ap, ◌∙◌, arith, cond, [], ◌∷◌, refl, None}
+use Rattle.live_set.proofs.Kit.{sym, ap, ◌∙◌, arith, cond, [], ◌∷◌, refl, None, members}
 use Rattle.std.proofs.lemmas.Str.Pattern.{strip_prefix_char}
-use Rattle.live_set.specs.LanguageList.{members}
 use Rattle.live_set.proofs.Listing.{members_cut}
 use Rattle.live_set.proofs.languages.first_member.Goals as goal
 

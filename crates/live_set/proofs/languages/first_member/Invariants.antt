@@ -1,6 +1,4 @@
-use Rattle.std.proofs.Common.{◌≡◌, ◌≤◌, length}
-use Rattle.std.specs.Str.{IsUtf8}
-use Rattle.live_set.specs.LanguageList.{members}
+use Rattle.live_set.proofs.Kit.{◌≡◌, ◌≤◌, length, IsUtf8, members}
 use Rattle.live_set.proofs.languages.first_member.Given as goal
 
 abbrev pub invariant-colons : goal.invariant-colons

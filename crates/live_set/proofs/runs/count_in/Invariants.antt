@@ -1,5 +1,4 @@
-use Rattle.std.proofs.Common.{◌≡◌, length, flat_map, min, take}
-use Rattle.live_set.specs.LoadRuns.{loads_in}
+use Rattle.live_set.proofs.Kit.{◌≡◌, length, flat_map, min, take, loads_in}
 use Rattle.live_set.proofs.runs.count_in.Given as goal
 
 abbrev pub invariant-runs : goal.invariant-runs

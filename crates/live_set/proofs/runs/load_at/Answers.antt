@@ -1,5 +1,4 @@
-use Rattle.std.proofs.Common.{◌≡◌, ◌+◌, ◌-◌, length, get_or, slice_get, flat_map, drop, sym, ap, ◌∙◌, arith}
-use Rattle.live_set.specs.LoadRuns.{loads_in}
+use Rattle.live_set.proofs.Kit.{◌≡◌, ◌+◌, ◌-◌, length, get_or, slice_get, flat_map, drop, sym, ap, ◌∙◌, arith, loads_in}
 use Rattle.live_set.proofs.Indexing.{load_here, load_later}
 use Rattle.live_set.proofs.runs.load_at.Goals as goal
 

@@ -1,5 +1,4 @@
-use Rattle.std.proofs.Common.{◌≡◌, flat_map, drop, slice_get}
-use Rattle.live_set.specs.LoadRuns.{loads_in}
+use Rattle.live_set.proofs.Kit.{◌≡◌, flat_map, drop, slice_get, loads_in}
 use Rattle.live_set.proofs.runs.load_at.Given as goal
 
 abbrev pub invariant-runs : goal.invariant-runs

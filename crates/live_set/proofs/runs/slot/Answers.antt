@@ -1,6 +1,5 @@
-use Rattle.std.proofs.Common.{rules}
+use Rattle.live_set.proofs.Kit.{rules, order_of, probe}
 use Rattle.std.proofs.lemmas.Fn.{always_returns_same}
-use Rattle.live_set.specs.Slots.{order_of, probe}
 use Rattle.live_set.proofs.Slotting.{searched}
 use Rattle.live_set.proofs.runs.slot.Goals as goal
 

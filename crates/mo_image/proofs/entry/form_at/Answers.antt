@@ -1,5 +1,4 @@
-use Rattle.std.proofs.Common.{◌≡◌, ◌==◌, ℕ, List, drop, subst, arith}
-use Rattle.std.specs.List.{slice_split}
+use Rattle.mo_image.proofs.Kit.{◌≡◌, ◌==◌, ℕ, List, drop, subst, arith, slice_split}
 use Rattle.mo_image.proofs.FormLists.{next_form, form_at, some_left}
 use Rattle.mo_image.proofs.entry.form_at.Goals as goal
 

@@ -1,5 +1,4 @@
-use Rattle.std.proofs.Common.{◌≡◌, ◌==◌, drop}
-use Rattle.std.specs.List.{slice_split}
+use Rattle.mo_image.proofs.Kit.{◌≡◌, ◌==◌, drop, slice_split}
 use Rattle.mo_image.proofs.entry.form_at.Given as goal
 
 abbrev pub invariant-skipped : goal.invariant-skipped

@@ -1,6 +1,4 @@
-use Rattle.std.proofs.Common.{◌≡◌, ◌==◌, ℕ, rules, subst, drop, arith, ◌∙◌}
-use Rattle.std.specs.List.{slice_split}
-use Rattle.mo_image.specs.MoFile.{pool}
+use Rattle.mo_image.proofs.Kit.{◌≡◌, ◌==◌, ℕ, rules, subst, drop, arith, ◌∙◌, slice_split, pool}
 use Rattle.mo_image.proofs.Closing.{forms_with_nul, cut_at, cut_told}
 use Rattle.mo_image.proofs.entry.form_with_nul_at.Goals as goal
 

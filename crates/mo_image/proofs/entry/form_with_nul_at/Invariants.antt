@@ -1,9 +1,7 @@
-use Rattle.std.proofs.Common.{◌≡◌, ◌==◌, ◌<◌, List, ℕ, length, drop}
-use Rattle.std.specs.List.{AllByRecursion, slice_split}
+use Rattle.mo_image.proofs.Kit.{◌≡◌, ◌==◌, ◌<◌, List, ℕ, length, drop, AllByRecursion, slice_split, LacksByte, with_nul}
+use Rattle.mo_image.proofs.Kit.{pool}
 use denote.Shadow.{shadow}
 use denote.Text.{Utf8}
-use Rattle.mo_image.specs.Entry.{LacksByte}
-use Rattle.mo_image.specs.MoFile.{with_nul, pool}
 use Rattle.mo_image.proofs.entry.form_with_nul_at.Given as goal
 
 abbrev pub invariant-skipped : goal.invariant-skipped

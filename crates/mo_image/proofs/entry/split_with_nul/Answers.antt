@@ -1,5 +1,4 @@
-use Rattle.std.proofs.Common.{List, ℕ, Option, take, length, ◌+◌, refl, subst}
-use Rattle.std.specs.Prelude.{IfSome}
+use Rattle.mo_image.proofs.Kit.{List, ℕ, Option, take, length, ◌+◌, refl, subst, IfSome}
 use Rattle.mo_image.specs.Lent.{IsCutWithNul}
 use Rattle.mo_image.proofs.Closing.{front_with_nul}
 use Rattle.mo_image.proofs.entry.split_with_nul.Goals as goal

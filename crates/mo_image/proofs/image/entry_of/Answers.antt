@@ -1,6 +1,4 @@
-use Rattle.std.proofs.Common.{ap, sym, ◌∙◌}
-use Rattle.byte_text.specs.Cut.{offset_of}
-use Rattle.mo_image.specs.MoFile.{with_nul}
+use Rattle.mo_image.proofs.Kit.{ap, sym, ◌∙◌, offset_of, with_nul}
 use Rattle.mo_image.proofs.ImageFacts.{entry_facts}
 use Rattle.mo_image.proofs.Extents.{piece_named, piece_held}
 use Rattle.mo_image.proofs.Closing.{held_with_nul}

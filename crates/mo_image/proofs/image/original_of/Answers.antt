@@ -1,5 +1,4 @@
-use Rattle.std.proofs.Common.{ap, arith}
-use Rattle.mo_image.specs.Pairs.{key_part}
+use Rattle.mo_image.proofs.Kit.{ap, arith, key_part}
 use Rattle.mo_image.proofs.ImageFacts.{entry_facts, entry_room, key_found}
 use Rattle.mo_image.proofs.image.original_of.Goals as goal
 

@@ -1,10 +1,7 @@
-use Rattle.std.proofs.Common.{ℕ, ◌≡◌, ◌+◌, ◌*◌, length, drop, subst, arith, ap, ◌∙◌}
+use Rattle.mo_image.proofs.Kit.{ℕ, ◌≡◌, ◌+◌, ◌*◌, length, drop, subst, arith, ap, ◌∙◌, little_number, offset_of}
+use Rattle.mo_image.proofs.Kit.{IsNamedAt, word_at}
 use Rattle.std.proofs.lemmas.List.{length-take}
-use Rattle.byteorder.specs.Endian.{little_number}
-use Rattle.byte_text.specs.Cut.{offset_of}
-use Rattle.mo_image.specs.Extents.{IsNamedAt}
 use Rattle.mo_image.specs.Image.{listing}
-use Rattle.mo_image.specs.Tables.{word_at}
 use Rattle.mo_image.proofs.ImageFacts.{entry_facts, entry_room, image_small, string_small}
 use Rattle.mo_image.proofs.image.texts_of.Goals as goal
 

@@ -1,6 +1,5 @@
-use Rattle.std.proofs.Common.{◌≡◌, ◌+◌, ◌++◌, List, ℕ, length, arith, ap, ◌∙◌, append_assoc}
+use Rattle.mo_image.proofs.Kit.{◌≡◌, ◌+◌, ◌++◌, List, ℕ, length, arith, ap, ◌∙◌, append_assoc, string_of}
 use Rattle.mo_image.specs.MoFile.{word}
-use Rattle.mo_image.specs.Strings.{string_of}
 use Rattle.mo_image.proofs.Writing.{piece_written, length-pool_split, pairs_split}
 use Rattle.mo_image.proofs.writer.push_pairs.Goals as goal
 

@@ -1,5 +1,4 @@
-use Rattle.mo_image.specs.MoFile.{with_nul}
-use Rattle.mo_image.specs.Strings.{string_of}
+use Rattle.mo_image.proofs.Kit.{with_nul, string_of}
 use Rattle.mo_image.proofs.Writing.{piece_written, pool_split}
 use Rattle.mo_image.proofs.writer.push_pool.Goals as goal
 

@@ -1,6 +1,4 @@
-use Rattle.std.proofs.Common.{◌≡◌, ◌++◌, drop}
-use Rattle.mo_image.specs.MoFile.{pool}
-use Rattle.mo_image.specs.Strings.{strings_of}
+use Rattle.mo_image.proofs.Kit.{◌≡◌, ◌++◌, drop, pool, strings_of}
 use Rattle.mo_image.proofs.writer.push_pool.Given as goal
 
 abbrev pub invariant-loop-i : goal.invariant-loop-i

@@ -1,6 +1,5 @@
-use Rattle.std.proofs.Common.{◌≡◌, ◌≢◌, ◌+◌, ◌++◌, ◌∷◌, [], length, arith, subst, sym}
-use Rattle.std.proofs.lemmas.Grind.{common_steps}
-use Rattle.mo_tables.specs.Blocks.{AreSame, AreFirsts}
+use Rattle.mo_tables.proofs.Kit.{◌≡◌, ◌≢◌, ◌+◌, ◌++◌, ◌∷◌, [], length, arith, subst, sym, common_steps, AreFirsts}
+use Rattle.mo_tables.specs.Blocks.{AreSame}
 use Rattle.mo_tables.proofs.BlockLemmas.{one_more, number_of}
 use Rattle.mo_tables.proofs.blocks.first_blocks.Goals as goal
 

@@ -1,5 +1,4 @@
-use Rattle.std.proofs.Common.{◌≡◌, length}
-use Rattle.mo_tables.specs.Blocks.{AreFirsts}
+use Rattle.mo_tables.proofs.Kit.{◌≡◌, length, AreFirsts}
 use Rattle.mo_tables.proofs.blocks.first_blocks.Given as goal
 
 abbrev pub invariant-loop-k : goal.invariant-loop-k

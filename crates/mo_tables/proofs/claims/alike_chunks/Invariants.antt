@@ -1,5 +1,4 @@
-use Rattle.std.proofs.Common.{◌*◌}
-use Rattle.mo_tables.specs.Claims.{AreAlike}
+use Rattle.mo_tables.proofs.Kit.{◌*◌, AreAlike}
 use Rattle.mo_tables.proofs.claims.alike_chunks.Given as goal
 
 abbrev pub invariant-loop-i : goal.invariant-loop-i

@@ -1,10 +1,5 @@
-use Rattle.std.proofs.Common.{arith, rules, subst, refl}
-use Rattle.std.proofs.lemmas.Grind.{common_steps}
-use Rattle.std.specs.Prelude.{All}
-use Rattle.std.proofs.lemmas.List.{take_all}
-use Rattle.std.proofs.lemmas.List.Elements.{All-more}
+use Rattle.mo_tables.proofs.Kit.{arith, rules, subst, refl, common_steps, All, take_all, All-more, ClaimHolds}
 use Rattle.mo_tables.specs.declared.claims.Claim.{Claim}
-use Rattle.mo_tables.specs.Claims.{ClaimHolds}
 use Rattle.mo_tables.proofs.KeyOrder.{decided}
 use Rattle.mo_tables.proofs.claims.all_hold.Goals as goal
 

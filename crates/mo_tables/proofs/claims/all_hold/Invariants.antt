@@ -1,7 +1,5 @@
-use Rattle.std.proofs.Common.{take}
-use Rattle.std.specs.Prelude.{All}
+use Rattle.mo_tables.proofs.Kit.{take, All, IsAlike, ClaimHolds}
 use Rattle.mo_tables.specs.Blocks.{AreBlocks}
-use Rattle.mo_tables.specs.Claims.{IsAlike, ClaimHolds}
 use Rattle.mo_tables.proofs.claims.all_hold.Given as goal
 
 abbrev pub invariant-claims : goal.invariant-claims

@@ -1,8 +1,7 @@
-use Rattle.std.proofs.Common.{Bool, ◌↔◌}
-use Rattle.std.specs.Prelude.{IsTrue, All}
+use Rattle.mo_tables.proofs.Kit.{Bool, ◌↔◌, All, table_at, HasForms, rows}
+use Rattle.std.specs.Prelude.{IsTrue}
 use Rattle.std.proofs.lemmas.Result.{IfOk-weaker}
-use Rattle.mo_tables.specs.MoTables.{table_at, HaveLawfulForms}
-use Rattle.mo_tables.specs.Rows.{HasForms, rows}
+use Rattle.mo_tables.specs.MoTables.{HaveLawfulForms}
 use Rattle.mo_tables.proofs.TableRows.{rows_lie, forms_of_rows}
 use Rattle.mo_tables.proofs.lawful.have_lawful_forms.Goals as goal
 

@@ -1,6 +1,5 @@
-use Rattle.std.proofs.Common.{subst, sym}
-use Rattle.std.specs.Prelude.{All}
-use Rattle.mo_tables.specs.Rows.{RowLies, HasForms, LiesIn}
+use Rattle.mo_tables.proofs.Kit.{subst, sym, All, RowLies, HasForms}
+use Rattle.mo_tables.specs.Rows.{LiesIn}
 use Rattle.mo_tables.proofs.RowSweeps.{there, back, forms, alone_from, alone_to, alone_lie, Once, OneForm, Alone}
 use Rattle.mo_tables.proofs.row_tests.have_forms.Goals as goal
 

@@ -1,6 +1,5 @@
-use Rattle.std.proofs.Common.{refl}
+use Rattle.mo_tables.proofs.Kit.{refl, RowLies, HasTexts}
 use Rattle.mo_tables.proofs.RowSweeps.{there, back, texts, OriginalUtf8, FewSeparators, TranslationUtf8}
-use Rattle.mo_tables.specs.Rows.{RowLies, HasTexts}
 use Rattle.mo_tables.proofs.row_tests.have_texts.Goals as goal
 
 pub first_stretch-stretch-requires : goal.first_stretch-stretch-requires

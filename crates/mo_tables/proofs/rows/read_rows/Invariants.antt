@@ -1,5 +1,4 @@
-use Rattle.std.proofs.Common.{◌≡◌}
-use Rattle.mo_tables.specs.Rows.{rows}
+use Rattle.mo_tables.proofs.Kit.{◌≡◌, rows}
 use Rattle.mo_tables.proofs.rows.read_rows.Given as goal
 
 abbrev pub invariant-loop-i : goal.invariant-loop-i

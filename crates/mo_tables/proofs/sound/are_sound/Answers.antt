@@ -1,9 +1,6 @@
-use Rattle.std.proofs.Common.{◌≡◌, ◌+◌, ◌-◌, ◌*◌, ◌<◌, ℕ, List, refl, sym, ap, ◌∙◌, subst, arith}
-use Rattle.std.specs.Str.{IsUtf8}
-use Rattle.mo_tables.specs.MoTables.{before_nul, HasNul, HasLawfulHeader}
-use Rattle.mo_tables.specs.declared.rows.Span.{Span}
-use Rattle.mo_tables.specs.FileParts.{part, IsPart, KnowsSeparators, HasFewSeparators}
-use Rattle.mo_image.specs.Tables.{string_at}
+use Rattle.mo_tables.proofs.Kit.{◌≡◌, ◌+◌, ◌-◌, ◌*◌, ◌<◌, ℕ, List, refl, sym, ap, ◌∙◌, subst, arith, IsUtf8, before_nul}
+use Rattle.mo_tables.proofs.Kit.{HasNul, HasLawfulHeader, Span, part, KnowsSeparators, HasFewSeparators, string_at}
+use Rattle.mo_tables.specs.FileParts.{IsPart}
 use Rattle.mo_tables.proofs.Cuts.{front_utf8}
 use Rattle.mo_tables.proofs.SoundRows.{IsSound, all_sound, one_sound, later_header, slice_is, text_at}
 use Rattle.mo_tables.proofs.SoundRows.{has_nul_at, first_lies}

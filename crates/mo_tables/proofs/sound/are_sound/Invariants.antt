@@ -1,7 +1,4 @@
-use Rattle.std.proofs.Common.{◌≡◌, ◌+◌, ◌-◌, ◌*◌, ◌<◌}
-use Rattle.mo_tables.specs.FileParts.{KnowsSeparators}
-use Rattle.mo_tables.specs.MoTables.{before_nul}
-use Rattle.mo_image.specs.Tables.{string_at}
+use Rattle.mo_tables.proofs.Kit.{◌≡◌, ◌+◌, ◌-◌, ◌*◌, ◌<◌, KnowsSeparators, before_nul, string_at}
 use Rattle.mo_tables.proofs.SoundRows.{SoundTo}
 use Rattle.mo_tables.proofs.sound.are_sound.Given as goal
 

@@ -1,9 +1,4 @@
-use Rattle.std.proofs.Common.{◌≡◌, ℕ, List, subst, refl, arith}
-use Rattle.std.specs.Prelude.{All}
-use Rattle.std.proofs.lemmas.List.{take_all}
-use Rattle.std.proofs.lemmas.List.Elements.{All-more}
-use Rattle.mo_tables.specs.declared.rows.Span.{Span}
-use Rattle.mo_tables.specs.Rows.{text_in, nuls}
+use Rattle.mo_tables.proofs.Kit.{◌≡◌, ℕ, List, subst, refl, arith, All, take_all, All-more, Span, text_in, nuls}
 use Rattle.mo_tables.proofs.GapLemmas.{count_nowhere, count_here}
 use Rattle.mo_tables.proofs.strings.have_one_form.Goals as goal
 

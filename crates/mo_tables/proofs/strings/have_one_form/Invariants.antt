@@ -1,7 +1,5 @@
-use Rattle.std.proofs.Common.{◌≡◌, take}
-use Rattle.std.specs.Prelude.{All}
+use Rattle.mo_tables.proofs.Kit.{◌≡◌, take, All, text_in, nuls}
 use Rattle.mo_tables.specs.FileParts.{IsGap}
-use Rattle.mo_tables.specs.Rows.{text_in, nuls}
 use Rattle.mo_tables.proofs.strings.have_one_form.Given as goal
 
 abbrev pub invariant-spans : goal.invariant-spans

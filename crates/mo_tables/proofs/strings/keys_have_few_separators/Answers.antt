@@ -1,10 +1,4 @@
-use Rattle.std.proofs.Common.{ℕ, List, subst, refl}
-use Rattle.std.specs.Prelude.{All}
-use Rattle.std.proofs.lemmas.List.{take_all}
-use Rattle.std.proofs.lemmas.List.Elements.{All-more}
-use Rattle.mo_tables.specs.declared.rows.Row.{Row}
-use Rattle.mo_tables.specs.FileParts.{HasFewSeparators}
-use Rattle.mo_tables.specs.Rows.{text_in}
+use Rattle.mo_tables.proofs.Kit.{ℕ, List, subst, refl, All, take_all, All-more, Row, HasFewSeparators, text_in}
 use Rattle.mo_tables.proofs.strings.keys_have_few_separators.Goals as goal
 
 abbrev FewIn : List ℕ → Row → Type 0

@@ -1,7 +1,4 @@
-use Rattle.std.proofs.Common.{take}
-use Rattle.std.specs.Prelude.{All}
-use Rattle.mo_tables.specs.FileParts.{KnowsSeparators, HasFewSeparators}
-use Rattle.mo_tables.specs.Rows.{text_in}
+use Rattle.mo_tables.proofs.Kit.{take, All, KnowsSeparators, HasFewSeparators, text_in}
 use Rattle.mo_tables.proofs.strings.keys_have_few_separators.Given as goal
 
 abbrev pub invariant-rows : goal.invariant-rows

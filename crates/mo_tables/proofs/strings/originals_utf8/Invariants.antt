@@ -1,8 +1,4 @@
-use Rattle.std.proofs.Common.{take}
-use Rattle.std.specs.Prelude.{All}
-use Rattle.std.specs.Str.{IsUtf8}
-use Rattle.mo_tables.specs.FileParts.{IsStretch}
-use Rattle.mo_tables.specs.Rows.{text_in}
+use Rattle.mo_tables.proofs.Kit.{take, All, IsUtf8, IsStretch, text_in}
 use Rattle.mo_tables.proofs.strings.originals_utf8.Given as goal
 
 abbrev pub invariant-rows : goal.invariant-rows

@@ -1,10 +1,4 @@
-use Rattle.std.proofs.Common.{ℕ, List, subst}
-use Rattle.std.specs.Prelude.{All}
-use Rattle.std.specs.Str.{IsUtf8}
-use Rattle.std.proofs.lemmas.List.{take_all}
-use Rattle.std.proofs.lemmas.List.Elements.{All-more}
-use Rattle.mo_tables.specs.declared.rows.Row.{Row}
-use Rattle.mo_tables.specs.Rows.{text_in}
+use Rattle.mo_tables.proofs.Kit.{ℕ, List, subst, All, IsUtf8, take_all, All-more, Row, text_in}
 use Rattle.mo_tables.proofs.strings.translations_utf8.Goals as goal
 
 abbrev Utf8In : List ℕ → Row → Type 0

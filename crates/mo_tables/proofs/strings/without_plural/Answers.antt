@@ -1,7 +1,4 @@
-use Rattle.std.proofs.Common.{◌≤◌, ℕ, List, [], ◌∷◌, ◌++◌, ◌∙◌, get_or, ap, sym, arith}
-use Rattle.std.proofs.lemmas.List.Elements.{All-more}
-use Rattle.mo_tables.specs.declared.rows.Row.{Row}
-use Rattle.mo_tables.specs.Rows.{text_in, nuls}
+use Rattle.mo_tables.proofs.Kit.{◌≤◌, ℕ, List, [], ◌∷◌, ◌++◌, ◌∙◌, get_or, ap, sym, arith, All-more, Row, text_in, nuls}
 use Rattle.mo_tables.proofs.RowSweeps.{one_more, no_more}
 use Rattle.mo_tables.proofs.strings.without_plural.Goals as goal
 use Rattle.mo_tables.proofs.strings.without_plural.Goals.{then-count-eq0+in_ok-push, else-count-eq0}

@@ -1,5 +1,4 @@
-use Rattle.std.proofs.Common.{ℕ, ◌+◌, ◌*◌, ◌<◌}
-use Rattle.mo_tables.specs.MoTables.{HasNul}
+use Rattle.mo_tables.proofs.Kit.{ℕ, ◌+◌, ◌*◌, ◌<◌, HasNul}
 use Rattle.mo_tables.proofs.tables.all_have_nul.Given as goal
 
 abbrev pub invariant-loop-i : goal.invariant-loop-i

@@ -1,6 +1,5 @@
-use Rattle.std.proofs.Common.{arith}
+use Rattle.mo_tables.proofs.Kit.{arith, strings}
 use Rattle.std.proofs.lemmas.Bool.{leb-true, le-leb}
-use Rattle.mo_image.specs.Tables.{strings}
 use Rattle.mo_tables.proofs.RowLemmas.{length-file, length-strings}
 use Rattle.mo_tables.proofs.tables.fits.Goals as goal
 

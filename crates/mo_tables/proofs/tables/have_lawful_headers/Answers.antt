@@ -1,8 +1,5 @@
-use Rattle.std.proofs.Common.{List, ℕ, ◌+◌, ◌*◌, arith, subst, sym}
+use Rattle.mo_tables.proofs.Kit.{List, ℕ, ◌+◌, ◌*◌, arith, subst, sym, IsUtf8, string_at, before_nul, HasLawfulHeader}
 use borrow.Author.Count.{below_more}
-use Rattle.std.specs.Str.{IsUtf8}
-use Rattle.mo_image.specs.Tables.{string_at}
-use Rattle.mo_tables.specs.MoTables.{before_nul, HasLawfulHeader}
 use Rattle.mo_tables.proofs.Cuts.{front_utf8}
 use Rattle.mo_tables.proofs.tables.have_lawful_headers.Goals as goal
 

@@ -1,6 +1,4 @@
-use Rattle.std.proofs.Common.{ℕ, ◌+◌, ◌*◌, ◌<◌}
-use Rattle.mo_image.specs.Tables.{string_at}
-use Rattle.mo_tables.specs.MoTables.{HasLawfulHeader}
+use Rattle.mo_tables.proofs.Kit.{ℕ, ◌+◌, ◌*◌, ◌<◌, string_at, HasLawfulHeader}
 use Rattle.mo_tables.proofs.tables.have_lawful_headers.Given as goal
 
 abbrev pub invariant-loop-i : goal.invariant-loop-i

@@ -1,9 +1,4 @@
-use Rattle.std.proofs.Common.{◌≡◌, ℕ, ◌+◌, ◌-◌, ◌*◌, ◌<◌}
-use Rattle.std.specs.Ordering.{nat_cmp}
-use Rattle.std.specs.declared.cmp.Ordering.TheVariants.{Less}
-use Rattle.std.specs.Cmp.Lexicographic.{slice_cmp}
-use Rattle.mo_image.specs.Tables.{string_at}
-use Rattle.mo_tables.specs.MoTables.{before_nul}
+use Rattle.mo_tables.proofs.Kit.{◌≡◌, ℕ, ◌+◌, ◌-◌, ◌*◌, ◌<◌, nat_cmp, Less, slice_cmp, string_at, before_nul}
 use Rattle.mo_tables.proofs.tables.keys_rise.Given as goal
 
 abbrev pub invariant-loop-i : goal.invariant-loop-i

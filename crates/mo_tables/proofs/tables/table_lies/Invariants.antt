@@ -1,5 +1,4 @@
-use Rattle.std.proofs.Common.{ℕ, ◌+◌, ◌*◌, ◌<◌}
-use Rattle.mo_tables.specs.MoTables.{StringLies}
+use Rattle.mo_tables.proofs.Kit.{ℕ, ◌+◌, ◌*◌, ◌<◌, StringLies}
 use Rattle.mo_tables.proofs.tables.table_lies.Given as goal
 
 abbrev pub invariant-loop-i : goal.invariant-loop-i

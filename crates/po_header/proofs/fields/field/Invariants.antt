@@ -1,5 +1,4 @@
-use Rattle.std.proofs.Common.{◌≡◌, length}
-use Rattle.std.specs.Str.{IsUtf8}
+use Rattle.po_header.proofs.Kit.{◌≡◌, length, IsUtf8}
 use Rattle.po_header.specs.Fields.{field_value}
 use Rattle.po_header.proofs.fields.field.Given as goal
 

@@ -1,5 +1,4 @@
-use Rattle.std.proofs.Common.{◌≡◌, ap, ◌∙◌, sym, arith, List, ℕ, Some, None, drop, ◌++◌}
-use Rattle.std.specs.Option.{option_copied}
+use Rattle.po_header.proofs.Kit.{◌≡◌, ap, ◌∙◌, sym, arith, List, ℕ, Some, None, drop, ◌++◌, option_copied}
 use Rattle.std.proofs.lemmas.Str.Pattern.{strip_prefix_char}
 use Rattle.po_header.proofs.FieldLemmas.{line_value-other, line_value-no_colon, line_value-some}
 use Rattle.po_header.proofs.fields.value_in.Goals as goal

@@ -1,6 +1,5 @@
-use Rattle.std.proofs.Common.{ap, ◌∙◌}
+use Rattle.po_header.proofs.Kit.{ap, ◌∙◌, stack_of}
 use Rattle.po_header.specs.declared.parse.Frame.TheVariants.{Bracket, Bang}
-use Rattle.po_header.specs.Frames.{stack_of}
 use Rattle.po_header.specs.Stack.{begin}
 use Rattle.po_header.proofs.FrameLemmas.{wanting-push}
 use Rattle.po_header.proofs.parse.begin_operand.Goals as goal

@@ -1,8 +1,5 @@
-use Rattle.std.proofs.Common.{ap, ◌∙◌}
+use Rattle.po_header.proofs.Kit.{ap, ◌∙◌, Token, stack_of, node_tree}
 use Rattle.po_header.specs.declared.parse.Frame.TheVariants.{Left, Condition}
-use Rattle.po_header.specs.declared.token.Token.{Token}
-use Rattle.po_header.specs.Frames.{stack_of}
-use Rattle.po_header.specs.Nodes.{node_tree}
 use Rattle.po_header.specs.Stack.{go_on, left_waits, condition_waits}
 use Rattle.po_header.proofs.FrameLemmas.{wanting-push}
 use Rattle.po_header.proofs.parse.go_on_from.Goals as goal

@@ -1,6 +1,5 @@
-use Rattle.std.proofs.Common.{refl, inr}
+use Rattle.po_header.proofs.Kit.{refl, inr, node_tree}
 use Rattle.std.proofs.lemmas.Result.{err_from_is_err_and}
-use Rattle.po_header.specs.Nodes.{node_tree}
 use Rattle.po_header.proofs.FaultLemmas.{IsFault-map, IfErr-map, IfOk-map, is_nothing, is_something}
 use Rattle.po_header.proofs.Running.{reads_token, refuses_token, refuses_stray, ends_well, ends_badly}
 use Rattle.po_header.proofs.parse.parse_node.Goals as goal

@@ -1,7 +1,6 @@
-use Rattle.std.proofs.Common.{List, length, ap, sym, ◌∙◌}
+use Rattle.po_header.proofs.Kit.{List, length, ap, sym, ◌∙◌, Tree}
 use Rattle.std.proofs.lemmas.Bool.{ltb-false}
 use Rattle.po_header.specs.declared.parts.Part.{Part}
-use Rattle.po_header.specs.Grammar.{Tree}
 use Rattle.po_header.specs.TreeValue.{value}
 use Rattle.po_header.specs.ExprParts.{part_tree, trees_of}
 use Rattle.po_header.proofs.PartLemmas.{built-part, built-past}

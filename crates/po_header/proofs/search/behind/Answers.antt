@@ -1,5 +1,4 @@
-use Rattle.std.proofs.Common.{ap, ◌∙◌, sym}
-use Rattle.std.specs.Option.{option_copied}
+use Rattle.po_header.proofs.Kit.{ap, ◌∙◌, sym, option_copied}
 use Rattle.po_header.proofs.TextLemmas.{behind_first-split, behind_first-none}
 use Rattle.po_header.proofs.search.behind.Goals as goal
 

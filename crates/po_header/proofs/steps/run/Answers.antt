@@ -1,5 +1,4 @@
-use Rattle.std.proofs.Common.{◌∙◌, sym, ap, arith, take}
-use Rattle.std.proofs.lemmas.List.{length-take}
+use Rattle.po_header.proofs.Kit.{◌∙◌, sym, ap, arith, take, length-take}
 use Rattle.po_header.specs.declared.steps.Step.{Step}
 use Rattle.po_header.specs.ChoiceSteps.{step_value, step_values}
 use Rattle.po_header.proofs.StepLemmas.{reached-step, reached-earlier, reached-none, reached-past}

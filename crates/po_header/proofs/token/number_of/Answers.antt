@@ -1,5 +1,4 @@
-use Rattle.std.proofs.Common.{◌∙◌}
-use Rattle.std.proofs.lemmas.List.{take_all}
+use Rattle.po_header.proofs.Kit.{◌∙◌, take_all}
 use Rattle.po_header.proofs.TokenLemmas.{limit_next, limit_passed}
 use Rattle.po_header.proofs.token.number_of.Goals as goal
 

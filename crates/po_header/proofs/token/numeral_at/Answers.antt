@@ -1,6 +1,4 @@
-use Rattle.std.proofs.Common.{arith}
-use Rattle.std.specs.Char.{is_ascii_digit}
-use Rattle.std.proofs.lemmas.List.Sums.{prefix_len-le-length}
+use Rattle.po_header.proofs.Kit.{arith, is_ascii_digit, prefix_len-le-length}
 use Rattle.po_header.proofs.TokenLemmas.{Begins-numeral, large_numeral}
 use Rattle.po_header.proofs.token.numeral_at.Goals as goal
 

@@ -1,6 +1,4 @@
-use Rattle.std.proofs.Common.{arith}
-use Rattle.std.proofs.lemmas.List.Sums.{prefix_len-le-length}
-use Rattle.po_header.specs.Tokens.{is_blank}
+use Rattle.po_header.proofs.Kit.{arith, prefix_len-le-length, is_blank}
 use Rattle.po_header.proofs.TokenLemmas.{Begins-blanks, StopsBlanks-blanks}
 use Rattle.po_header.proofs.token.skip_blanks.Goals as goal
 

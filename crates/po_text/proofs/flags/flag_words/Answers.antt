@@ -1,5 +1,4 @@
-use Rattle.std.proofs.Common.{sym, ◌∙◌, arith}
-use Rattle.std.proofs.lemmas.List.Sums.{prefix_len-le-length}
+use Rattle.po_text.proofs.Kit.{sym, ◌∙◌, arith, prefix_len-le-length}
 use Rattle.po_text.specs.Lexing.{is_no_separator}
 use Rattle.po_text.proofs.FlagLemmas.{words_step, words_end}
 use Rattle.po_text.proofs.flags.flag_words.Goals as goal

@@ -1,7 +1,6 @@
-use Rattle.std.proofs.Common.{◌≡◌, length, map}
+use Rattle.po_text.proofs.Kit.{◌≡◌, length, map, flags_over}
 use Rattle.std.specs.List.{slice_split}
 use Rattle.po_text.specs.Spelling.{flag_mark, is_separator}
-use Rattle.po_text.specs.Building.{flags_over}
 use Rattle.po_text.proofs.flags.flag_words.Given as goal
 
 abbrev pub invariant-words : goal.invariant-words

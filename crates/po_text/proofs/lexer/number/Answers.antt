@@ -1,13 +1,12 @@
-use Rattle.std.proofs.Common.{◌≡◌, ℕ, ◌<◌, ◌≤◌, ◌^◌, true, false, inl, inr}
-use Rattle.std.proofs.Common.{List, get_or, take, length, refl, arith, ap, ◌∙◌, Some}
+use Rattle.po_text.proofs.Kit.{◌≡◌, ℕ, ◌<◌, ◌≤◌, ◌^◌, true, false, inl, inr, List, get_or, take, length, refl, arith}
+use Rattle.po_text.proofs.Kit.{ap, ◌∙◌, Some, ◌==◌, cases_eq, Number}
 use Rattle.std.specs.Char.{is_ascii_digit}
-use Rattle.std.specs.Prelude.{◌==◌}
 use Rattle.std.specs.List.{list_all}
 use Rattle.std.proofs.Math.Nat.{pow-le-pow_right}
 use Rattle.std.proofs.lemmas.List.{take_all, get_or_default}
 use Rattle.std.proofs.lemmas.List.Sums.{list_all-from_AllPass}
-use Rattle.std.proofs.lemmas.Bool.{le-leb, cases_eq}
-use Rattle.po_text.specs.Spelling.{Number, number_of}
+use Rattle.std.proofs.lemmas.Bool.{le-leb}
+use Rattle.po_text.specs.Spelling.{number_of}
 use Rattle.byte_text.specs.Decimal.{decimal_value}
 use Rattle.po_text.proofs.lexer.number.Goals as goal
 

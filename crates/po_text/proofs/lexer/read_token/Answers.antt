@@ -1,12 +1,10 @@
-use Rattle.std.proofs.Common.{◌≡◌, ℕ, List, ◌∷◌, refl, sym, ap, ◌∙◌, Some, Ok, Err, Result}
-use Rattle.std.specs.Prelude.{IfOk}
-use Rattle.std.specs.List.{take_while}
+use Rattle.po_text.proofs.Kit.{◌≡◌, ℕ, List, ◌∷◌, refl, sym, ap, ◌∙◌, Some, IfOk, take_while, PoKind, Quoted, Word}
+use Rattle.po_text.proofs.Kit.{PieceAt, is_word_byte, string_of, token_view}
+use Rattle.std.proofs.Common.{Ok, Err, Result}
 use denote.Ref.{Bor}
-use Rattle.po_text.specs.declared.fault.PoKind.{PoKind}
 use Rattle.po_text.specs.declared.lexer.Token as code
 use Rattle.po_text.specs.Spelling as spec
-use Rattle.po_text.specs.Spelling.{Quoted, Word, PieceAt, is_word_byte}
-use Rattle.po_text.specs.Lexing.{string_of, TakesToken, token_view}
+use Rattle.po_text.specs.Lexing.{TakesToken}
 use Rattle.po_text.proofs.lexer.read_token.Goals as goal
 
 pub returns-in_ok-rest-clause-ok : goal.returns-in_ok-rest-clause-ok

@@ -1,9 +1,5 @@
-use Rattle.std.proofs.Common.{◌≡◌, ℕ, ◌++◌, List, [], take, drop, refl, sym, arith, ap, ◌∙◌}
-use Rattle.std.specs.List.{take_while, prefix_len}
-use Rattle.std.proofs.lemmas.List.{take-append-drop}
-use Rattle.std.proofs.lemmas.List.Sums.{prefix_len-le-length}
-use Rattle.po_text.specs.Spelling.{is_word_byte, word_token}
-use Rattle.po_text.specs.Lexing.{token_view}
+use Rattle.po_text.proofs.Kit.{◌≡◌, ℕ, ◌++◌, List, [], take, drop, refl, sym, arith, ap, ◌∙◌, take_while, prefix_len}
+use Rattle.po_text.proofs.Kit.{take-append-drop, prefix_len-le-length, is_word_byte, word_token, token_view}
 use Rattle.po_text.proofs.lexer.read_word.Goals as goal
 
 pub split_at-requires : goal.split_at-requires

@@ -1,5 +1,4 @@
-use Rattle.std.proofs.Common.{false, sym}
-use Rattle.std.proofs.lemmas.List.{take-append-drop}
+use Rattle.po_text.proofs.Kit.{false, sym, take-append-drop}
 use Rattle.po_text.proofs.EndLemmas.{ends_behind, text_ends}
 use Rattle.po_text.proofs.open.skip_mark.Goals as goal
 

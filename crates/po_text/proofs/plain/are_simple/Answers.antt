@@ -1,11 +1,9 @@
-use Rattle.std.proofs.Common.{◌≡◌, ◌<◌, ◌&&◌, ℕ, true, false, Bool, List, leb}
-use Rattle.std.proofs.Common.{ltb, length, get_or, arith, inl, inr, ◌-◌, sym, ap, ◌∙◌}
-use Rattle.std.proofs.lemmas.Bool.{eqb-true, ltb-true, cases_lt}
-use Rattle.std.proofs.lemmas.List.Sums.{prefix_len_passes}
+use Rattle.po_text.proofs.Kit.{◌≡◌, ◌<◌, ℕ, true, false, Bool, List, length, get_or, arith, inl, inr, ◌-◌, sym, ap, ◌∙◌}
+use Rattle.po_text.proofs.Kit.{eqb-true, prefix_len_passes, IsLawful, is_simple}
+use Rattle.std.proofs.Common.{◌&&◌, leb, ltb}
+use Rattle.std.proofs.lemmas.Bool.{ltb-true, cases_lt}
 use Rattle.std.proofs.lemmas.Str.{IsUtf8-from_ascii}
 use Rattle.std.proofs.lemmas.Str.Ascii.{IsAscii-from_reads}
-use Rattle.po_text.specs.Spelling.{IsLawful}
-use Rattle.po_text.specs.Lexing.{is_simple}
 use Rattle.po_text.proofs.LaneLemmas.{chunk_passes, run_bound}
 use Rattle.po_text.proofs.plain.are_simple.Goals as goal
 

@@ -1,5 +1,4 @@
-use Rattle.std.proofs.Common.{◌≡◌, ◌<◌, ◌-◌, ℕ, true, get_or, length}
-use Rattle.po_text.specs.Lexing.{is_simple}
+use Rattle.po_text.proofs.Kit.{◌≡◌, ◌<◌, ◌-◌, ℕ, true, get_or, length, is_simple}
 use Rattle.po_text.proofs.plain.are_simple.Given as goal
 
 abbrev pub invariant-vectors : goal.invariant-vectors

@@ -1,7 +1,4 @@
-use Rattle.std.proofs.Common.{refl, arith}
-use Rattle.std.proofs.lemmas.Simd.{zip2_splat, length-chunk}
-use lib.Lanes.{chunk}
-use Rattle.po_text.specs.Spelling.{is_plain}
+use Rattle.po_text.proofs.Kit.{refl, arith, zip2_splat, length-chunk, chunk, is_plain}
 use Rattle.po_text.proofs.LaneLemmas.{either, lanes_run}
 use Rattle.po_text.proofs.plain.plain_lanes.Goals as goal
 

@@ -1,7 +1,6 @@
-use Rattle.std.proofs.Common.{◌≡◌, ◌∙◌, ◌-◌, length, drop, take, sym, arith}
-use Rattle.std.proofs.lemmas.List.{length-drop, length-take}
-use Rattle.std.proofs.lemmas.List.Sums.{prefix_len-le-length}
-use Rattle.po_text.specs.Spelling.{is_plain}
+use Rattle.po_text.proofs.Kit.{◌≡◌, ◌∙◌, ◌-◌, length, drop, take, sym, arith, length-drop, prefix_len-le-length}
+use Rattle.po_text.proofs.Kit.{is_plain}
+use Rattle.std.proofs.lemmas.List.{length-take}
 use Rattle.po_text.proofs.LaneLemmas.{run_bound, run_stops, run_through}
 use Rattle.po_text.proofs.plain.plain_len.Goals as goal
 

@@ -1,6 +1,4 @@
-use Rattle.std.proofs.Common.{◌≡◌, ◌+◌, ◌-◌, ◌≤◌, drop, length}
-use Rattle.std.specs.List.{prefix_len}
-use Rattle.po_text.specs.Spelling.{is_plain}
+use Rattle.po_text.proofs.Kit.{◌≡◌, ◌+◌, ◌-◌, ◌≤◌, drop, length, prefix_len, is_plain}
 use Rattle.po_text.proofs.plain.plain_len.Given as goal
 
 abbrev pub invariant-vectors : goal.invariant-vectors

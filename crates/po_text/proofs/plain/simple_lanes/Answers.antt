@@ -1,7 +1,6 @@
-use Rattle.std.proofs.Common.{ℕ, cond, leb, refl, arith}
-use Rattle.std.proofs.lemmas.Simd.{zip2_splat, zip2_splat_left, length-chunk}
-use lib.Lanes.{chunk}
-use Rattle.po_text.specs.Lexing.{is_simple}
+use Rattle.po_text.proofs.Kit.{ℕ, cond, refl, arith, zip2_splat, length-chunk, chunk, is_simple}
+use Rattle.std.proofs.Common.{leb}
+use Rattle.std.proofs.lemmas.Simd.{zip2_splat_left}
 use Rattle.po_text.proofs.LaneLemmas.{either, lanes_run}
 use Rattle.po_text.proofs.plain.simple_lanes.Goals as goal
 

@@ -1,7 +1,5 @@
-use Rattle.std.proofs.Common.{◌≡◌, List, ◌∷◌, [], ◌++◌, map, inl, inr, sym, ap, ◌∙◌, rules}
-use Rattle.std.proofs.lemmas.Result.{err_from_is_err_and}
-use Rattle.std.proofs.lemmas.List.{map-append}
-use Rattle.po_text.specs.Outcome.{body}
+use Rattle.po_text.proofs.Kit.{◌≡◌, List, ◌∷◌, [], ◌++◌, map, inl, inr, sym, ap, ◌∙◌, rules, err_from_is_err_and}
+use Rattle.po_text.proofs.Kit.{map-append, body}
 use Rattle.po_text.specs.Views.{Content, content, entry_view}
 use Rattle.po_text.proofs.Outcomes.{faulty_refuses}
 use Rattle.po_text.proofs.read.read_po.Goals as goal

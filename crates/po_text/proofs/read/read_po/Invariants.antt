@@ -1,6 +1,4 @@
-use Rattle.std.proofs.Common.{List}
-use Rattle.po_text.specs.Entries.{Entry}
-use Rattle.po_text.specs.Outcome.{body}
+use Rattle.po_text.proofs.Kit.{List, Entry, body}
 use Rattle.po_text.specs.Progress.{HasRead, left_of}
 use Rattle.po_text.specs.Views.{AreCopies}
 use Rattle.po_text.proofs.read.read_po.Given as goal

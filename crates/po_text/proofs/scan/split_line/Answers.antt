@@ -1,10 +1,9 @@
-use Rattle.std.proofs.Common.{◌≡◌, ℕ, true, false, Bool, List, length, refl, arith, ap, ◌∙◌, Some, None, Option}
+use Rattle.po_text.proofs.Kit.{◌≡◌, ℕ, true, false, Bool, List, length, refl, arith, ap, ◌∙◌, Some, None, Option}
+use Rattle.po_text.proofs.Kit.{prefix_len, is_not_line_end}
 use Rattle.std.specs.Option.{unwrap_or}
-use Rattle.std.specs.List.{prefix_len}
 use Rattle.std.specs.Prelude.{not}
 use Rattle.std.proofs.lemmas.List.Sums.{prefix_len_is}
 use Rattle.bstr.specs.Find.{IsFirstByte, is_byte}
-use Rattle.po_text.specs.Spelling.{is_not_line_end}
 use Rattle.po_text.proofs.scan.split_line.Goals as goal
 
 not_true : (b : Bool) → (b ≡ true → ⊥) → not b ≡ true

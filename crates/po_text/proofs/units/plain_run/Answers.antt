@@ -1,7 +1,5 @@
-use Rattle.std.proofs.Common.{◌≡◌, ◌+◌, ℕ, drop, Bool, true, false, cond, List, [], ◌∷◌, refl, one-add, arith}
-use Rattle.std.specs.List.{prefix_len}
-use Rattle.std.proofs.lemmas.List.Sums.{prefix_len_passes, prefix_len-le-length}
-use Rattle.po_text.specs.Spelling.{is_plain}
+use Rattle.po_text.proofs.Kit.{◌≡◌, ◌+◌, ℕ, drop, Bool, true, false, cond, List, [], ◌∷◌, refl, one-add, arith}
+use Rattle.po_text.proofs.Kit.{prefix_len, prefix_len_passes, prefix_len-le-length, is_plain}
 use Rattle.po_text.specs.Lexing.{StopsPlain}
 use Rattle.po_text.proofs.UnitLemmas.{cut_plain}
 use Rattle.po_text.proofs.units.plain_run.Goals as goal

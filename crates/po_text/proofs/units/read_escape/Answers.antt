@@ -1,5 +1,4 @@
-use Rattle.std.proofs.Common.{refl, sym, ap, ◌∷◌, List, ℕ, ◌∙◌}
-use Rattle.po_text.specs.Spelling.{Escape}
+use Rattle.po_text.proofs.Kit.{refl, sym, ap, ◌∷◌, List, ℕ, ◌∙◌, Escape}
 use Rattle.po_text.proofs.UnitLemmas.{octal_some}
 use Rattle.po_text.proofs.units.read_escape.Goals as goal
 

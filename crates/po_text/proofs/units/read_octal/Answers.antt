@@ -1,5 +1,4 @@
-use Rattle.std.proofs.Common.{sym, arith}
-use Rattle.po_text.specs.Spelling.{Octal}
+use Rattle.po_text.proofs.Kit.{sym, arith, Octal}
 use Rattle.po_text.proofs.UnitLemmas.{octal_unit}
 use Rattle.po_text.proofs.units.read_octal.Goals as goal
 

@@ -1,6 +1,4 @@
-use Rattle.std.proofs.Common.{◌≡◌, arith, ap, ◌∷◌, [], ℕ, ◌∙◌, length}
-use Rattle.std.proofs.lemmas.Result.{err_from_is_err_and}
-use Rattle.po_text.specs.declared.fault.PoKind.TheVariants.{OpenString}
+use Rattle.po_text.proofs.Kit.{◌≡◌, arith, ap, ◌∷◌, [], ℕ, ◌∙◌, length, err_from_is_err_and, OpenString}
 use Rattle.po_text.proofs.UnitLemmas.{goes_run, goes_unit, fails_there, is_line_end, open_at_line_end}
 use Rattle.po_text.proofs.units.read_units.Goals as goal
 

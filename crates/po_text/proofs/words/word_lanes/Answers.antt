@@ -1,7 +1,6 @@
-use Rattle.std.proofs.Common.{ℕ, cond, ltb, refl, arith}
-use Rattle.std.proofs.lemmas.Simd.{zip2_splat, zip2_splat_left, length-chunk}
-use lib.Lanes.{chunk}
-use Rattle.po_text.specs.Spelling.{is_word_byte}
+use Rattle.po_text.proofs.Kit.{ℕ, cond, refl, arith, zip2_splat, length-chunk, chunk, is_word_byte}
+use Rattle.std.proofs.Common.{ltb}
+use Rattle.std.proofs.lemmas.Simd.{zip2_splat_left}
 use Rattle.po_text.proofs.LaneLemmas.{both, either, lanes_run}
 use Rattle.po_text.proofs.words.word_lanes.Goals as goal
 

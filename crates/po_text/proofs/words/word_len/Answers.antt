@@ -1,5 +1,4 @@
-use Rattle.std.proofs.Common.{◌∙◌, sym, arith}
-use Rattle.po_text.specs.Spelling.{is_word_byte}
+use Rattle.po_text.proofs.Kit.{◌∙◌, sym, arith, is_word_byte}
 use Rattle.po_text.proofs.LaneLemmas.{run_stops}
 use Rattle.po_text.proofs.words.word_len.Goals as goal
 

@@ -1,6 +1,5 @@
-use Rattle.std.proofs.Common.{ℕ, List, Option, Some, ap, sym, ◌∙◌}
-use Rattle.mo_image.specs.Entry.{Entry}
-use Rattle.catalogue.specs.Body.{Kept, kept_texts}
+use Rattle.catalogue.proofs.Kit.{ℕ, List, Option, Some, ap, sym, ◌∙◌, Entry, Kept}
+use Rattle.catalogue.specs.Body.{kept_texts}
 use Rattle.catalogue.specs.Drafts.{draft_entry, entry_with}
 use Rattle.mo_image.proofs.Lists.{image_at}
 use Rattle.catalogue.proofs.drafts.KeptDraftsEntryList.strings_at.Goals as goal

@@ -1,8 +1,7 @@
-use Rattle.std.proofs.Common.{◌≡◌, false, Bor, Option, Some, None, sym, ◌∙◌, subst}
+use Rattle.entry_search.proofs.Kit.{◌≡◌, false, Option, Some, None, sym, ◌∙◌, subst, Slot, IndexValue, HasNoSlot}
+use Rattle.std.proofs.Common.{Bor}
 use Rattle.std.specs.Option.{is_some}
 use Rattle.std.specs.Prelude.{IfNone}
-use Rattle.entry_search.specs.declared.slot_table.Slot.{Slot}
-use Rattle.entry_search.specs.Index.{IndexValue, HasNoSlot}
 use Rattle.entry_search.proofs.index.Index.is_shared.Goals as goal
 
 when_none : (o : Option (Bor Slot)) (P : Type 0) → is_some o ≡ false → IfNone o P → P

@@ -1,6 +1,5 @@
-use Rattle.std.proofs.Common.{subst}
+use Rattle.entry_search.proofs.Kit.{subst, IndexValue, HasNoSlot}
 use Rattle.std.specs.Prelude.{IfNone}
-use Rattle.entry_search.specs.Index.{IndexValue, HasNoSlot}
 use Rattle.entry_search.proofs.index.Index.slot_of.Goals as goal
 
 pub returns-clause-none : goal.returns-clause-none

@@ -1,7 +1,6 @@
-use Rattle.std.proofs.Common.{List, ltb, ltb-true, ltb-false, sym, ◌∙◌, subst, rules}
+use Rattle.entry_search.proofs.Kit.{List, ltb-true, sym, ◌∙◌, subst, rules, Slot, Climbs, IsCut}
+use Rattle.std.proofs.Common.{ltb, ltb-false}
 use Rattle.std.proofs.lemmas.List.Sorted.{IsPartitionPoint-from_clause, IsPartitionedBy-ltb}
-use Rattle.entry_search.specs.declared.slot_table.Slot.{Slot}
-use Rattle.entry_search.specs.Index.{Climbs, IsCut}
 use Rattle.entry_search.proofs.slot_table.SlotTable.cut.Goals as goal
 
 pub returns-in-None : goal.returns-in-None

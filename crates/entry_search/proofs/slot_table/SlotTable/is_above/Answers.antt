@@ -1,6 +1,5 @@
-use Rattle.std.proofs.Common.{List, ◌≤◌, length, ap, leb-true, subst, arith}
-use Rattle.std.specs.List.{AllWithin}
-use Rattle.entry_search.specs.declared.slot_table.Slot.{Slot}
+use Rattle.entry_search.proofs.Kit.{List, ◌≤◌, length, ap, subst, arith, AllWithin, Slot}
+use Rattle.std.proofs.Common.{leb-true}
 use Rattle.entry_search.proofs.Slots.{above_is}
 use Rattle.entry_search.proofs.slot_table.SlotTable.is_above.Goals as goal
 

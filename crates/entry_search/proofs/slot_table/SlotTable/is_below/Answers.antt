@@ -1,6 +1,4 @@
-use Rattle.std.proofs.Common.{List, ◌<◌, length, ap, subst, ltb-true, arith}
-use Rattle.std.specs.List.{AllWithin}
-use Rattle.entry_search.specs.declared.slot_table.Slot.{Slot}
+use Rattle.entry_search.proofs.Kit.{List, ◌<◌, length, ap, subst, ltb-true, arith, AllWithin, Slot}
 use Rattle.entry_search.proofs.Slots.{below_is}
 use Rattle.entry_search.proofs.slot_table.SlotTable.is_below.Goals as goal
 

@@ -1,7 +1,5 @@
-use Rattle.std.proofs.Common.{◌≡◌, ℕ, ◌<◌, List, length, ltb-true, ◌∙◌, sym, ap, subst}
-use Rattle.std.proofs.lemmas.List.{get_or_default}
-use Rattle.entry_search.specs.declared.slot_table.Slot.{Slot}
-use Rattle.entry_search.specs.Index.{Climbs, HasNoSlot, IsCut}
+use Rattle.entry_search.proofs.Kit.{◌≡◌, ℕ, ◌<◌, List, length, ltb-true, ◌∙◌, sym, ap, subst, get_or_default, Slot}
+use Rattle.entry_search.proofs.Kit.{Climbs, HasNoSlot, IsCut}
 use Rattle.entry_search.proofs.Slots.{no_slot}
 use Rattle.entry_search.proofs.slot_table.SlotTable.slot_at.Goals as goal
 

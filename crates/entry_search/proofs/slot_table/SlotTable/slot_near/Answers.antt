@@ -1,6 +1,4 @@
-use Rattle.std.proofs.Common.{List, ◌∙◌, subst}
-use Rattle.std.specs.Prelude.{Contains, IfSome}
-use Rattle.entry_search.specs.declared.slot_table.Slot.{Slot}
+use Rattle.entry_search.proofs.Kit.{List, ◌∙◌, subst, Contains, IfSome, Slot}
 use Rattle.entry_search.proofs.Slots.{among_all}
 use Rattle.entry_search.proofs.slot_table.SlotTable.slot_near.Goals as goal
 

@@ -1,7 +1,4 @@
-use Rattle.std.proofs.Common.{find, None, Some, sym, ap, subst, ◌∙◌}
-use Rattle.live_set.specs.Loads.{is_for}
-use Rattle.live_set.specs.Slots.{Rises}
-use Rattle.live_set.specs.LoadRuns.{loads_in}
+use Rattle.live_set.proofs.Kit.{find, None, Some, sym, ap, subst, ◌∙◌, is_for, Rises, loads_in}
 use Rattle.live_set.proofs.Running.{IsParted, within, rises_front, found_first, later_rises, found_later}
 use Rattle.live_set.proofs.runs.LoadRuns.get.Goals as goal
 

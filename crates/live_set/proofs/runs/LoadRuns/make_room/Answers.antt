@@ -1,5 +1,4 @@
-use Rattle.std.proofs.Common.{◌<◌, length, ap, ◌∙◌, arith}
-use Rattle.live_set.specs.LoadRuns.{loads_in}
+use Rattle.live_set.proofs.Kit.{◌<◌, length, ap, ◌∙◌, arith, loads_in}
 use Rattle.live_set.proofs.Running.{within, split_first, split_later, kept_later}
 use Rattle.live_set.proofs.runs.LoadRuns.make_room.Goals as goal
 

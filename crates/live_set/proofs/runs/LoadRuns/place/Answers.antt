@@ -1,10 +1,6 @@
-use Rattle.std.proofs.Common.{◌≡◌, ℕ, List, flat_map, take, length, get_or, min, Option, find, None, Some}
-use Rattle.std.proofs.Common.{MatchOption, sym, ap, subst, ◌∙◌, arith}
-use Rattle.std.proofs.lemmas.List.{length-append}
-use Rattle.live_set.specs.Loads.{LoadValue, is_for}
-use Rattle.live_set.specs.Placing.{IsPlaceFor}
-use Rattle.live_set.specs.Slots.{Rises, IsAt}
-use Rattle.live_set.specs.LoadRuns.{loads_in}
+use Rattle.live_set.proofs.Kit.{◌≡◌, ℕ, List, flat_map, take, length, get_or, min, Option, find, None, Some}
+use Rattle.live_set.proofs.Kit.{MatchOption, sym, ap, subst, ◌∙◌, arith, length-append, LoadValue, is_for, IsPlaceFor}
+use Rattle.live_set.proofs.Kit.{Rises, IsAt, loads_in}
 use Rattle.live_set.proofs.Indexing.{placed_first, place_behind}
 use Rattle.live_set.proofs.Running.{IsParted, about, below, above, within, rises_front, found_first, later_rises}
 use Rattle.live_set.proofs.Running.{found_later}

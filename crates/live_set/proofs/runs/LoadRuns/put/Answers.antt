@@ -1,7 +1,4 @@
-use Rattle.std.proofs.Common.{List, ◌++◌, flat_map, set, None, Some, sym, subst, ◌∙◌}
-use Rattle.live_set.specs.Loads.{LoadValue}
-use Rattle.live_set.specs.Slots.{Rises}
-use Rattle.live_set.specs.LoadRuns.{loads_in}
+use Rattle.live_set.proofs.Kit.{List, ◌++◌, flat_map, set, None, Some, sym, subst, ◌∙◌, LoadValue, Rises, loads_in}
 use Rattle.live_set.proofs.Running.{IsPut, parted_for, within, rises_front, later_rises, put_first, put_later}
 use Rattle.live_set.proofs.runs.LoadRuns.put.Goals as goal
 

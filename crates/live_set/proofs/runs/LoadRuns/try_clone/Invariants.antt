@@ -1,6 +1,4 @@
-use Rattle.std.proofs.Common.{◌≡◌, ◌<◌, take, length, flat_map}
-use Rattle.std.specs.List.{AllByRecursion}
-use Rattle.live_set.specs.LoadRuns.{loads_in}
+use Rattle.live_set.proofs.Kit.{◌≡◌, ◌<◌, take, length, flat_map, AllByRecursion, loads_in}
 use Rattle.live_set.proofs.runs.LoadRuns.try_clone.Given as goal
 
 abbrev pub invariant-runs : goal.invariant-runs

@@ -1,7 +1,5 @@
-use Rattle.std.proofs.Common.{◌≡◌, ℕ, List, [], ◌∷◌, ◌++◌, Some, map, find, flat_map, sym, ap, subst, ◌∙◌}
-use Rattle.live_set.specs.Asks.{has_key}
-use Rattle.live_set.specs.LanguageList.{language_behind, locales_of, named}
-use Rattle.live_set.specs.Sets.{map_in}
+use Rattle.live_set.proofs.Kit.{◌≡◌, ℕ, List, [], ◌∷◌, ◌++◌, Some, map, find, flat_map, sym, ap, subst, ◌∙◌, has_key}
+use Rattle.live_set.proofs.Kit.{language_behind, locales_of, named_locales, map_in}
 use Rattle.live_set.proofs.Listing.{members_of_name, find_first}
 use Rattle.live_set.proofs.set.CatalogueSet.find_by_key.Goals as goal
 
@@ -14,7 +12,7 @@ returns-in-Some c =
     let has = has_key c.args.key.now in
     let found = subst (λ (d : List ℕ). find has (map_in held d list ∷ []) ≡ Some c.in-Some.found.0.now)
     c.new-domain.ensures c.in-Some.ensures.found.0 in
-    let one : named list ≡ locales_of list ++ [] = ap (flat_map locales_of)
+    let one : named_locales list ≡ locales_of list ++ [] = ap (flat_map locales_of)
     (members_of_name list c.in-Some.ensures.name (sym c.if-is_translated.ensures)) in (
       ap (λ locales. find has (map maps locales)) one
           ∙ find_first has (maps list) c.in-Some.found.0.now (map maps (language_behind list ++ [])) found,

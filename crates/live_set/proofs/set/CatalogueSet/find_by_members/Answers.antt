@@ -1,11 +1,7 @@
-use Rattle.std.proofs.Common.{◌≡◌, List, [], ◌++◌, Option, None, Some, MatchOption, map, find, rules}
-use Rattle.std.proofs.Common.{flat_map, sym, ap, subst, ◌∙◌}
-use Rattle.std.proofs.lemmas.List.{append-nil}
-use Rattle.catalogue.specs.Entry.{Entry}
+use Rattle.live_set.proofs.Kit.{◌≡◌, List, [], ◌++◌, Option, None, Some, MatchOption, map, find, rules, flat_map, sym}
+use Rattle.live_set.proofs.Kit.{ap, subst, ◌∙◌, append-nil, Entry, has_key, members, language_behind, locales_of}
+use Rattle.live_set.proofs.Kit.{named_locales, map_in}
 use Rattle.catalogue.specs.Map.{entry_at}
-use Rattle.live_set.specs.Asks.{has_key}
-use Rattle.live_set.specs.LanguageList.{members, language_behind, locales_of, named}
-use Rattle.live_set.specs.Sets.{map_in}
 use Rattle.live_set.proofs.Listing.{only_member, find_next}
 use Rattle.live_set.proofs.set.CatalogueSet.find_by_members.Goals as goal
 
@@ -19,9 +15,9 @@ returns-then-not-has_colon c =
     let has = has_key key in
     let only = only_member list member (members c.in_ok-member.field-0-1.now) (sym c.if-not-has_colon.ensures)
     c.in_ok-member.ensures.cut in
-    let one : named list ≡ locales_of list ++ [] = ap (flat_map locales_of) only.1 in
+    let one : named_locales list ≡ locales_of list ++ [] = ap (flat_map locales_of) only.1 in
     let language = language_behind list in
-    let same : find has (map maps (named list)) ≡ find has (map maps (language_behind member)) =
+    let same : find has (map maps (named_locales list)) ≡ find has (map maps (language_behind member)) =
     ap (λ l. find has (map maps l)) one
     ∙ find_next has (maps list) (map maps (language ++ [])) (c.requires only.2)
     ∙ ap (λ l. find has (map maps l)) (append-nil language)

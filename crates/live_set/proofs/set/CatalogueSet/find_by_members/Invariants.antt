@@ -1,7 +1,5 @@
-use Rattle.std.proofs.Common.{◌≡◌, length, find}
-use Rattle.std.specs.Str.{IsUtf8}
-use Rattle.live_set.specs.Asks.{has_key, maps_named}
-use Rattle.live_set.specs.Sets.{map_in}
+use Rattle.live_set.proofs.Kit.{◌≡◌, length, find, IsUtf8, has_key, map_in}
+use Rattle.live_set.specs.Asks.{maps_named}
 use Rattle.live_set.proofs.set.CatalogueSet.find_by_members.Given as goal
 
 abbrev pub invariant-members : goal.invariant-members

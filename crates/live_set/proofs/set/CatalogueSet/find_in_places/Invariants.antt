@@ -1,6 +1,4 @@
-use Rattle.std.proofs.Common.{◌≡◌, drop, find, map}
-use Rattle.live_set.specs.Asks.{has_key}
-use Rattle.live_set.specs.SetPlaces.{map_at}
+use Rattle.live_set.proofs.Kit.{◌≡◌, drop, find, map, has_key, map_at}
 use Rattle.live_set.proofs.set.CatalogueSet.find_in_places.Given as goal
 
 abbrev pub invariant-places : goal.invariant-places

@@ -1,8 +1,6 @@
-use Rattle.std.proofs.Common.{Bor, ℕ, List, map, find, ap, ◌∙◌}
+use Rattle.live_set.proofs.Kit.{Bor, ℕ, List, map, find, ap, ◌∙◌, has_key, map_at}
 use Rattle.std.specs.Prelude.{option_map}
 use Rattle.catalogue.specs.Entry.{key_bytes}
-use Rattle.live_set.specs.Asks.{has_key}
-use Rattle.live_set.specs.SetPlaces.{map_at}
 use Rattle.live_set.proofs.Listing.{find_first}
 use Rattle.live_set.proofs.set.CatalogueSet.find_in_places_hinted.Goals as goal
 

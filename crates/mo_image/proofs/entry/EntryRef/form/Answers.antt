@@ -1,5 +1,4 @@
-use Rattle.std.proofs.Common.{sym, ap, ◌∙◌}
-use Rattle.std.specs.Prelude.{option_map}
+use Rattle.mo_image.proofs.Kit.{sym, ap, ◌∙◌, option_map}
 use Rattle.mo_image.proofs.Closing.{only_form}
 use Rattle.mo_image.proofs.entry.EntryRef.form.Goals as goal
 

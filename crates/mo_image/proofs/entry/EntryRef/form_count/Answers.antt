@@ -1,5 +1,4 @@
-use Rattle.std.proofs.Common.{sym, ap}
-use Rattle.mo_image.specs.Entry.{Entry}
+use Rattle.mo_image.proofs.Kit.{sym, ap, Entry}
 use Rattle.mo_image.proofs.FormLists.{form_count_is}
 use Rattle.mo_image.proofs.entry.EntryRef.form_count.Goals as goal
 

@@ -1,6 +1,4 @@
-use Rattle.std.proofs.Common.{◌≡◌, ℕ, List, Option, sym, ap, ◌∙◌, subst}
-use Rattle.std.specs.Prelude.{IfSome, option_map}
-use Rattle.mo_image.specs.MoFile.{with_nul}
+use Rattle.mo_image.proofs.Kit.{◌≡◌, ℕ, List, Option, sym, ap, ◌∙◌, subst, IfSome, option_map, with_nul}
 use Rattle.mo_image.proofs.Closing.{only_form}
 use Rattle.mo_image.proofs.entry.EntryRef.form_with_nul.Goals as goal
 

@@ -1,5 +1,4 @@
-use Rattle.std.proofs.Common.{sym, ap, ◌∙◌}
-use Rattle.mo_image.specs.Entry.{key}
+use Rattle.mo_image.proofs.Kit.{sym, ap, ◌∙◌, key}
 use Rattle.mo_image.proofs.Originals.{key_is}
 use Rattle.mo_image.proofs.entry.EntryRef.key.Goals as goal
 

@@ -1,6 +1,4 @@
-use Rattle.std.proofs.Common.{sym, ap, ◌∙◌}
-use Rattle.std.proofs.lemmas.List.Splits.{join_with_byte-slice_split}
-use Rattle.mo_image.specs.Entry.{translation}
+use Rattle.mo_image.proofs.Kit.{sym, ap, ◌∙◌, join_with_byte-slice_split, translation}
 use Rattle.mo_image.proofs.messages.EntryStrings.translation.Goals as goal
 
 pub returns : goal.returns

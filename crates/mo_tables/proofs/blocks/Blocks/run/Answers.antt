@@ -1,7 +1,4 @@
-use Rattle.std.proofs.Common.{◌≡◌, ◌+◌, length, get_or, arith, refl, subst}
-use Rattle.std.proofs.lemmas.Grind.{common_steps}
-use Rattle.mo_tables.specs.FileParts.{part}
-use Rattle.mo_tables.specs.Claims.{AreAlike}
+use Rattle.mo_tables.proofs.Kit.{◌≡◌, ◌+◌, length, get_or, arith, refl, subst, common_steps, part, AreAlike}
 use Rattle.mo_tables.proofs.BlockLemmas.{copied}
 use Rattle.mo_tables.proofs.blocks.Blocks.run.Goals as goal
 

@@ -1,5 +1,4 @@
-use Rattle.std.proofs.Common.{◌≡◌, ◌≤◌}
-use Rattle.mo_tables.specs.Claims.{IsAlike}
+use Rattle.mo_tables.proofs.Kit.{◌≡◌, ◌≤◌, IsAlike}
 use Rattle.mo_tables.proofs.claims.Alike.grown_by_blocks.Given as goal
 
 abbrev pub invariant-loop-leap : goal.invariant-loop-leap

@@ -1,5 +1,4 @@
-use Rattle.std.proofs.Common.{◌≡◌, ◌+◌, ◌-◌, length, sym, ap, ◌∙◌, arith}
-use Rattle.mo_tables.specs.FileParts.{part}
+use Rattle.mo_tables.proofs.Kit.{◌≡◌, ◌+◌, ◌-◌, length, sym, ap, ◌∙◌, arith, part}
 use Rattle.mo_tables.proofs.PartLemmas.{length-part, front_utf8, rest_utf8, both_utf8, more_utf8}
 use Rattle.mo_tables.proofs.stretch.Stretch.grown.Goals as goal
 

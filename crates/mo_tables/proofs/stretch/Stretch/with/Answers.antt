@@ -1,5 +1,4 @@
-use Rattle.std.proofs.Common.{arith, subst, sym}
-use Rattle.std.specs.Str.{IsUtf8}
+use Rattle.mo_tables.proofs.Kit.{arith, subst, sym, IsUtf8}
 use Rattle.mo_tables.proofs.PartLemmas.{inner}
 use Rattle.mo_tables.proofs.stretch.Stretch.with.Goals as goal
 

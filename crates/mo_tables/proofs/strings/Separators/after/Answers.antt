@@ -1,7 +1,4 @@
-use Rattle.std.proofs.Common.{◌≡◌, min, ap, ◌∙◌, sym, arith}
-use Rattle.std.specs.List.{count_by}
-use Rattle.mo_tables.specs.MoTables.{before_nul}
-use Rattle.mo_tables.specs.FileParts.{part}
+use Rattle.mo_tables.proofs.Kit.{◌≡◌, min, ap, ◌∙◌, sym, arith, count_by, before_nul, part}
 use Rattle.mo_tables.proofs.Cuts.{is}
 use Rattle.mo_tables.proofs.GapLemmas.{key_part, count_key, count_nowhere}
 use Rattle.mo_tables.proofs.strings.Separators.after.Goals as goal

@@ -1,5 +1,4 @@
-use Rattle.std.proofs.Common.{arith}
-use Rattle.mo_tables.specs.FileParts.{part}
+use Rattle.mo_tables.proofs.Kit.{arith, part}
 use Rattle.mo_tables.proofs.GapLemmas.{count_key, count_covered}
 use Rattle.mo_tables.proofs.strings.Separators.lacks.Goals as goal
 

@@ -1,5 +1,4 @@
-use Rattle.std.proofs.Common.{ap, sym, ◌∙◌, refl}
-use Rattle.po_header.specs.Nodes.{node_tree}
+use Rattle.po_header.proofs.Kit.{ap, sym, ◌∙◌, refl, node_tree}
 use Rattle.po_header.proofs.PartLemmas.{IfOk-map, builds_binary, builds_choice}
 use Rattle.po_header.proofs.tree.Node.+add_parts.Goals as goal
 

@@ -1,6 +1,4 @@
-use Rattle.std.proofs.Common.{ap, ◌∙◌, refl}
-use Rattle.po_header.specs.declared.tree.Node.{Node}
-use Rattle.po_header.specs.ChoiceSteps.{node_value}
+use Rattle.po_header.proofs.Kit.{ap, ◌∙◌, refl, Node, node_value}
 use Rattle.po_header.proofs.StepLemmas.{IfFound-map, adds_choice}
 use Rattle.po_header.proofs.tree.Node.+add_value.Goals as goal
 

@@ -1,5 +1,4 @@
-use Rattle.std.proofs.Common.{[], None, refl}
-use Rattle.po_text.specs.Building.{some_if}
+use Rattle.po_text.proofs.Kit.{[], None, refl, some_if}
 use Rattle.po_text.proofs.Kept.{begun_lawful, is_kept}
 use Rattle.po_text.proofs.buffer.EntryBuffer.begin.Goals as goal
 

@@ -1,7 +1,5 @@
-use Rattle.std.proofs.Common.{◌++◌, ◌∷◌, [], List, arith, inl, inr, append_assoc, subst}
-use Rattle.std.proofs.lemmas.Result.{err_from_is_err_and}
-use Rattle.po_text.specs.Spelling.{Lexeme}
-use Rattle.po_text.specs.Lexing.{string_of, TakesLexemes}
+use Rattle.po_text.proofs.Kit.{◌++◌, ◌∷◌, [], List, arith, inl, inr, append_assoc, subst, err_from_is_err_and, Lexeme}
+use Rattle.po_text.proofs.Kit.{string_of, TakesLexemes}
 use Rattle.po_text.proofs.LexemeLemmas.{lexemes_push, lexemes_end, lexemes_fault, lexeme_of}
 use Rattle.po_text.proofs.lexer.Lexer.skip_tokens.Goals as goal
 

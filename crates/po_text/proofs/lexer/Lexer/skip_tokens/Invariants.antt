@@ -1,6 +1,4 @@
-use Rattle.std.proofs.Common.{ℕ, ◌+◌, ◌≤◌, List, ◌++◌, length}
-use Rattle.po_text.specs.Spelling.{Lexeme}
-use Rattle.po_text.specs.Lexing.{TakesLexemes}
+use Rattle.po_text.proofs.Kit.{ℕ, ◌+◌, ◌≤◌, List, ◌++◌, length, Lexeme, TakesLexemes}
 use Rattle.po_text.proofs.lexer.Lexer.skip_tokens.Given as goal
 
 abbrev pub invariant-tokens : goal.invariant-tokens

@@ -1,17 +1,11 @@
 use Rattle.po_text.specs.Faults.{out_of_memory}
-use Rattle.std.proofs.Common.{◌≡◌, ℕ, List, map, true, inl, inr, sym, ap, ◌∙◌, arith, subst, length}
-use Rattle.std.specs.Prelude.{◌⊎◌, Result, Ok, Err, IfOk, IfErr, Bool}
+use Rattle.po_text.proofs.Kit.{◌≡◌, ℕ, List, map, true, inl, inr, sym, ap, ◌∙◌, arith, subst, length, ◌⊎◌, Result, Ok}
+use Rattle.po_text.proofs.Kit.{Err, IfOk, BadOrder, Flags, Entry, IsFaulty, err_from_is_err_and, draft_of, at_state}
+use Rattle.po_text.proofs.Kit.{HasParsed, stage_view, IsBoundary, string_of, HasEnd}
+use Rattle.std.specs.Prelude.{IfErr, Bool}
 use Rattle.po_text.specs.declared.fault.PoFault.{PoFault}
-use Rattle.po_text.specs.declared.fault.PoKind.TheVariants.{BadOrder}
-use Rattle.po_text.specs.declared.flags.Flags.{Flags}
 use Rattle.po_text.specs.declared.parser.Parser.{Parser}
-use Rattle.po_text.specs.Entries.{Entry}
-use Rattle.po_text.specs.Outcome.{IsFaulty}
-use Rattle.std.proofs.lemmas.Result.{err_from_is_err_and}
-use Rattle.po_text.specs.Building.{draft_of, at_state}
-use Rattle.po_text.specs.Parsing.{HasTaken, HasParsed, ParsesOn, EndsRight}
-use Rattle.po_text.specs.Stages.{stage_view, IsBoundary}
-use Rattle.po_text.specs.Lexing.{string_of, HasEnd}
+use Rattle.po_text.specs.Parsing.{HasTaken, ParsesOn, EndsRight}
 use Rattle.po_text.proofs.LexemeLemmas.{lexemes_fault}
 use Rattle.po_text.proofs.Taking.{taken_push, opening_goes_on, end_goes_on, end_is_faulty, taken_refused}
 use Rattle.po_text.proofs.parser.Parser.next_entry.Goals as goal

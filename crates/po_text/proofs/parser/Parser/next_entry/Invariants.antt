@@ -1,9 +1,6 @@
-use Rattle.std.proofs.Common.{◌≡◌, ℕ, ◌+◌, ◌≤◌, List, map, length, false}
-use Rattle.po_text.specs.Entries.{Entry}
-use Rattle.po_text.specs.Building.{draft_of}
-use Rattle.po_text.specs.Parsing.{HasParsed, HasTakenTo}
+use Rattle.po_text.proofs.Kit.{◌≡◌, ℕ, ◌+◌, ◌≤◌, List, map, length, false, Entry, draft_of, HasParsed, stage_view}
+use Rattle.po_text.specs.Parsing.{HasTakenTo}
 use Rattle.po_text.specs.Buffers.{HasForm}
-use Rattle.po_text.specs.Stages.{stage_view}
 use Rattle.po_text.proofs.parser.Parser.next_entry.Given as goal
 
 abbrev pub invariant-tokens : goal.invariant-tokens

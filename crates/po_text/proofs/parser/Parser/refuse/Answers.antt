@@ -1,5 +1,4 @@
-use Rattle.std.proofs.Common.{inl, inr, ◌++◌, ◌∷◌, []}
-use Rattle.po_text.specs.Lexing.{string_of}
+use Rattle.po_text.proofs.Kit.{inl, inr, ◌++◌, ◌∷◌, [], string_of}
 use Rattle.po_text.proofs.Taking.{refused_is_faulty}
 use Rattle.po_text.proofs.parser.Parser.refuse.Goals as goal
 

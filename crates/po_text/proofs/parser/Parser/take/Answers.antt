@@ -1,7 +1,6 @@
-use Rattle.std.proofs.Common.{List, [], Some, refl, sym, ap, ◌∙◌}
-use Rattle.po_text.specs.Building.{Draft, draft_of, at_state, begin, no_flags, some_if}
-use Rattle.po_text.specs.Stages.{stage_view, next_count}
-use Rattle.po_text.specs.Lexing.{string_of, token_view}
+use Rattle.po_text.proofs.Kit.{List, [], Some, refl, sym, ap, ◌∙◌, Draft, draft_of, at_state, begin, no_flags, some_if}
+use Rattle.po_text.proofs.Kit.{stage_view, string_of, token_view}
+use Rattle.po_text.specs.Stages.{next_count}
 use Rattle.po_text.specs.Parsing.{is_context_word}
 use Rattle.po_text.proofs.Begun.{can_add, put_form, opening_form, opens_opening}
 use Rattle.po_text.proofs.Taking.{feed_open, opens_to, at_start}
