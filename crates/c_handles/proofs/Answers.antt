@@ -1,14 +1,14 @@
 -- The look-ups of a reader until it enters another version or leaves are answered over the version that it is in.
 use Rattle.c_handles.proofs.Common.{OthersStay, ◌≡◌, ℕ, ◌==◌, Bool, false, if◌then◌else◌, List, [], ◌∷◌, ◌++◌, sym, ap}
 use Rattle.c_handles.proofs.Common.{◌∙◌, subst, inl, inr, refl, ◌&&◌, Option, None, Some, MatchOption, take, LoadValue}
-use Rattle.c_handles.proofs.Common.{joined, SeenValue, LooksAtIn, Handle, Open, Handles, Call, MakesReader, EntersAfter}
-use Rattle.c_handles.proofs.Common.{Leaves, Looks, LooksAt, CountsReader, ClosesReader, AgreesWith, IsOpen, Makes}
-use Rattle.c_handles.proofs.Common.{Turns, IsMadeAt, EntersIn, EntersAfterIn, DoesToReaders, IsTrace, no_fault}
+use Rattle.c_handles.proofs.Common.{joined_loads, SeenValue, LooksAtIn, Handle, Open, Handles, Call, MakesReader}
+use Rattle.c_handles.proofs.Common.{EntersAfter, Leaves, Looks, LooksAt, CountsReader, ClosesReader, AgreesWith, IsOpen}
+use Rattle.c_handles.proofs.Common.{Makes, Turns, IsMadeAt, EntersIn, EntersAfterIn, DoesToReaders, IsTrace, no_fault}
 use Rattle.c_handles.proofs.Common.{IsAnswerFrom, IsAnswerIn, reader_in, HeldSet, Origin, Lent, IsEntered}
 use Rattle.c_handles.proofs.Common.{IsEnteredAfter, IsAfter, Look, AreAnswered, ends_entry, look_in, looks_in, by_test}
 use Rattle.c_answers.specs.Answering.{IsClosedAnswer, Question, key_of}
 use Rattle.mo_image.specs.Entry.{Entry}
-use Rattle.live_set.specs.SetPlaces.{listed, map_among}
+use Rattle.live_set.specs.SetPlaces.{listed_places, map_among}
 use Rattle.live_set.specs.declared.places.Places.{Places}
 use Rattle.live_set.specs.Sets.{SetValue, fold}
 use Rattle.c_handles.specs.Calls.{Enters}
@@ -48,15 +48,15 @@ stays_told v _ f notice new is now fails = absurd now
 
 answered_from : (v : List (List LoadValue)) (o : Origin) (domain languages : List ℕ) (q : Question) (text : List ℕ)
     → IsInOrigin v o → IsAnswerFrom o domain languages q text
-    → AreAnswered (joined v) (record { domain = domain; languages = languages; question = q; text = text } ∷ [])
+    → AreAnswered (joined_loads v) (record { domain = domain; languages = languages; question = q; text = text } ∷ [])
 answered_from v (Lent r) domain languages q text now is = subst
-    (λ (l : List (List LoadValue)). AreAnswered (joined l)
+    (λ (l : List (List LoadValue)). AreAnswered (joined_loads l)
     (record { domain = domain; languages = languages; question = q; text = text } ∷ [])) now (is, tt)
 answered_from v _ domain languages q text now is = absurd now
 
 answered_here : (v : List (List LoadValue)) (x : Handle HeldSet) (domain languages : List ℕ) (q : Question)
     (text : List ℕ) → IsIn v x → IsOpen (λ r. IsAnswerFrom r.origin domain languages q text) x
-    → AreAnswered (joined v) (record { domain = domain; languages = languages; question = q; text = text } ∷ [])
+    → AreAnswered (joined_loads v) (record { domain = domain; languages = languages; question = q; text = text } ∷ [])
 answered_here v (Open a) domain languages q text now is = answered_from v a.origin domain languages q text now is
 answered_here v _ domain languages q text now is = absurd now
 
@@ -68,16 +68,16 @@ no_entry q (b ∷ bs) is = absurd (cc (is))
 
 -- no places
 nowhere : (held : List LoadValue) (places : Places) (q : Question) (text : List ℕ) → places.count ≡ 0
-    → IsClosedAnswer (map_among held (listed places) (key_of q)) q text → text ≡ []
+    → IsClosedAnswer (map_among held (listed_places places) (key_of q)) q text → text ≡ []
 nowhere held places q text none is = no_entry q text
     (subst (λ (n : ℕ). IsClosedAnswer (map_among held (take n places.places) (key_of q)) q text) none is)
 
 answered_at : (v : List (List LoadValue)) (o : Origin) (f : ℕ) (domain languages : List ℕ) (places : Places)
     (q : Question) (text : List ℕ) → IsInOrigin v o
     → LooksAtIn domain languages places q text (record { origin = o; fault = f })
-    → AreAnswered (joined v) (record { domain = domain; languages = languages; question = q; text = text } ∷ [])
+    → AreAnswered (joined_loads v) (record { domain = domain; languages = languages; question = q; text = text } ∷ [])
 answered_at v (Lent r) f domain languages places q text now is =
-    let set : SetValue = fold (joined r.batches) in
+    let set : SetValue = fold (joined_loads r.batches) in
     let found : IsAnswerIn set domain languages q text = record {
       asked = λ d l. subst (λ (m : List Entry). IsClosedAnswer m q text)
           ((is.places_are.asked d l).answers is.few (key_of q)) is.answer;
@@ -89,7 +89,7 @@ answered_at v _ f domain languages places q text now is = absurd now
 
 answered_at_here : (v : List (List LoadValue)) (x : Handle HeldSet) (domain languages : List ℕ) (places : Places)
     (q : Question) (text : List ℕ) → IsIn v x → IsOpen (LooksAtIn domain languages places q text) x
-    → AreAnswered (joined v) (record { domain = domain; languages = languages; question = q; text = text } ∷ [])
+    → AreAnswered (joined_loads v) (record { domain = domain; languages = languages; question = q; text = text } ∷ [])
 answered_at_here v (Open a) domain languages places q text now is =
     answered_at v a.origin a.fault domain languages places q text now is
 answered_at_here v _ domain languages places q text now is = absurd now
@@ -97,7 +97,7 @@ answered_at_here v _ domain languages places q text now is = absurd now
 -- ---- a call
 
 record Continues (v : List (List LoadValue)) (ends : Bool) (look : List Look) (y : Handle HeldSet) : Type 0 where
-  pub answered : AreAnswered (joined v) look
+  pub answered : AreAnswered (joined_loads v) look
   pub stays : ends ≡ false → IsIn v y
 
 same_readers : (v : List (List LoadValue)) (k : ℕ) (before after : ℕ → Handle HeldSet) → after ≡ before
@@ -109,13 +109,13 @@ same_readers v k before after same now = record {
 
 -- a look-up by reader n, if it is this one
 looked : (v : List (List LoadValue)) (k n : ℕ) (before after : ℕ → Handle HeldSet) (Is : HeldSet → Type 0) (look : Look)
-    → IsOpen Is (before n) × (after ≡ before) → (IsOpen Is (before k) → AreAnswered (joined v) (look ∷ []))
+    → IsOpen Is (before n) × (after ≡ before) → (IsOpen Is (before k) → AreAnswered (joined_loads v) (look ∷ []))
     → IsIn v (before k) → Continues v false (if k == n then look ∷ [] else []) (after k)
 looked v k n before after Is look is answers now = record {
   answered = by_test (k == n)
-      (λ yes_. subst (λ (b : Bool). AreAnswered (joined v) (if b then look ∷ [] else [])) (sym yes_)
+      (λ yes_. subst (λ (b : Bool). AreAnswered (joined_loads v) (if b then look ∷ [] else [])) (sym yes_)
       (answers (subst (λ (j : ℕ). IsOpen Is (before j)) (sym (equal k n yes_)) is.0)))
-      (λ no_. subst (λ (b : Bool). AreAnswered (joined v) (if b then look ∷ [] else [])) (sym no_) tt);
+      (λ no_. subst (λ (b : Bool). AreAnswered (joined_loads v) (if b then look ∷ [] else [])) (sym no_) tt);
   stays = λ fails. subst (λ (f : ℕ → Handle HeldSet). IsIn v (f k)) (sym is.1) now;
 }
 
@@ -178,14 +178,14 @@ answered_append loads [] b p q = q
 answered_append loads (l ∷ ls) b p q = (p.0, answered_append loads ls b p.1 q)
 
 pub looks_answered : (v : List (List LoadValue)) (k : ℕ) (calls : List Call) (h last : Handles) → IsTrace h calls last
-    → IsIn v (h.readers k) → AreAnswered (joined v) (looks_in k calls)
+    → IsIn v (h.readers k) → AreAnswered (joined_loads v) (looks_in k calls)
 looks_answered v k [] h last is now = tt
 looks_answered v k (call ∷ calls) h last (between, step, rest) now =
     let one = looks_step v k h call between.readers step.readers now in
     by_test (ends_entry k call)
     (λ yes_. subst
-    (λ (b : Bool). AreAnswered (joined v) (if b then [] else look_in k call ++ looks_in k calls)) (sym yes_) tt)
+    (λ (b : Bool). AreAnswered (joined_loads v) (if b then [] else look_in k call ++ looks_in k calls)) (sym yes_) tt)
     (λ no_. subst
-    (λ (b : Bool). AreAnswered (joined v) (if b then [] else look_in k call ++ looks_in k calls)) (sym no_)
-    (answered_append (joined v) (look_in k call) (looks_in k calls) one.answered
+    (λ (b : Bool). AreAnswered (joined_loads v) (if b then [] else look_in k call ++ looks_in k calls)) (sym no_)
+    (answered_append (joined_loads v) (look_in k call) (looks_in k calls) one.answered
     (looks_answered v k calls between last rest (one.stays no_))))

@@ -7,11 +7,11 @@ pub use Rattle.std.proofs.Common.{[], ◌&&◌, ◌++◌, ◌+◌, ◌==◌, ◌
 pub use Rattle.std.proofs.Common.{Option, Some, ap, append_assoc, arith, false, if◌then◌else◌, inl, inr, length}
 pub use Rattle.std.proofs.Common.{length-append, map, max, refl, subst, suc, sym, take, true, zero, ℕ, ⊎_elim}
 pub use Rattle.live_set.specs.Loads.{LoadValue}
-pub use Rattle.live_loads.specs.Batches.{StartsWith, joined, version_of}
+pub use Rattle.live_loads.specs.Batches.{StartsWith, joined_loads, version_of}
 pub use Rattle.live_loads.specs.Seen.{SeenValue}
 pub use Rattle.live_loads.specs.Store.{AreNames, StoreValue}
 pub use Rattle.live_loads.proofs.Joining.{begins_nil, begins_refl, begins_trans, joined-append}
-pub use Rattle.live_versions.specs.History.{Accept, Enter, Event, Learn, Refuse, State, after, opened, state_from}
+pub use Rattle.live_versions.specs.History.{Accept, Enter, Event, Learn, Refuse, State, after, new_store, state_from}
 pub use Rattle.life.proofs.Calls.{either_begins, learns_all, learns_nothing, publish_keeps, refusal_keeps, worked_none}
 pub use Rattle.life.proofs.Histories.{by_test}
 pub use Rattle.c_answers.specs.Numbers.{busy_fault, memory_fault, no_fault}

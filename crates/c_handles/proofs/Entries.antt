@@ -1,19 +1,18 @@
 -- The acts of a reader lead from what it had seen to what it has seen.
 use Rattle.c_handles.proofs.Common.{◌≡◌, ◌⊎◌, ℕ, ◌≤◌, List, [], ◌∷◌, ◌++◌, map, refl, sym, subst, arith, max, ⊎_elim}
-use Rattle.c_handles.proofs.Common.{Option, None, Some, ⊤, LoadValue, joined, version_of, StartsWith, GoOn, Look}
+use Rattle.c_handles.proofs.Common.{Option, None, Some, ⊤, LoadValue, joined_loads, version_of, StartsWith, GoOn, Look}
 use Rattle.c_handles.proofs.Common.{ReaderAct, Entered, Told, telling, AreAnswered, learns_nothing, learns_all}
 use Rattle.c_handles.proofs.Common.{either_begins}
 use Rattle.life.specs.Acts.{Act, Enters, Learns, IsLearning, Leads, LeadsAll}
 use Rattle.desks.proofs.Answers.{version_grows}
-use Rattle.life.proofs.Weaving.{learnt_version}
-use Rattle.life.proofs.Weaving.{leads_all_begins as life_begins}
+use Rattle.life.proofs.Weaving.{learnt_version, leads_all_begins as life_begins}
 
 -- an entry of these batches, with the look-ups in it
 pub record IsReading (seen : List (List LoadValue)) (version : ℕ) (looks : List Look) (next : List (List LoadValue))
     : Type 0 where
   pub later : StartsWith next seen
   pub version_is : version ≡ version_of next
-  pub answered : AreAnswered (joined next) looks
+  pub answered : AreAnswered (joined_loads next) looks
 
 abbrev pub ReaderLeads : List (List LoadValue) → ReaderAct → List (List LoadValue) → Type 0
 ReaderLeads seen (Entered version looks) next = IsReading seen version looks next
@@ -37,14 +36,14 @@ IsToldIn None next = ⊤
 IsToldIn (Some version) next = (notice : List (List LoadValue)) × (version ≡ version_of notice) × StartsWith next notice
 
 one_entry : (seen : List (List LoadValue)) (version : ℕ) (looks : List Look) (next : List (List LoadValue))
-    → StartsWith next seen → version ≡ version_of next → AreAnswered (joined next) looks
+    → StartsWith next seen → version ≡ version_of next → AreAnswered (joined_loads next) looks
     → ReaderLeadsAll seen (Entered version looks ∷ []) next
 one_entry seen version looks next later is answered =
     (next, record { later = later; version_is = is; answered = answered }, refl)
 
 pub entry_leads : (seen : List (List LoadValue)) (told : Option ℕ) (version : ℕ) (looks : List Look)
     (next : List (List LoadValue)) → StartsWith next seen → IsToldIn told next → version ≡ version_of next
-    → AreAnswered (joined next) looks → ReaderLeadsAll seen (telling told ++ Entered version looks ∷ []) next
+    → AreAnswered (joined_loads next) looks → ReaderLeadsAll seen (telling told ++ Entered version looks ∷ []) next
 entry_leads seen None version looks next later told is answered = one_entry seen version looks next later is answered
 entry_leads seen (Some old) version looks next later (notice, same, begins) is answered =
     ⊎_elim
@@ -92,7 +91,7 @@ goes_on seen a [] b n is = tt
 goes_on seen a (Entered version looks ∷ acts) b n (next, one, rest) =
     let le : version_of a ≤ version_of next = version_grows next a one.later in (
       omega (arith, n, le, one.version_is),
-      (joined next, one.version_is, one.answered),
+      (joined_loads next, one.version_is, one.answered),
       goes_on version next acts b one.version_is rest,
     )
 goes_on seen a (Told version ∷ acts) b n (next, one, rest) =

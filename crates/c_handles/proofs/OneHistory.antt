@@ -1,14 +1,14 @@
 -- The law of handles: the work of a store and the acts of its readers are put into one history.
 use Rattle.c_handles.proofs.Common.{Option, None, Some, MatchOption, ◌≡◌, ℕ, zero, suc, List, [], ◌∷◌, ◌++◌, map, refl}
 use Rattle.c_handles.proofs.Common.{sym, ap, ◌∙◌, subst, ⊤, LoadValue, StartsWith, SeenValue, StoreValue, begins_nil}
-use Rattle.c_handles.proofs.Common.{begins_trans, Event, opened, memory_fault, any_reader_in, HeldSet, Handle, Unused}
+use Rattle.c_handles.proofs.Common.{begins_trans, Event, new_store, memory_fault, any_reader_in, HeldSet, Handle}
+use Rattle.c_handles.proofs.Common.{Unused}
 use Rattle.c_handles.proofs.Common.{Open, Closed, Handles, Call, AgreesWith, no_handles, IsOpen, IsStep, AgreesIn}
 use Rattle.c_handles.proofs.Common.{IsTrace, store_in, view_in, HeldStore, ReaderAct, work_in, acts_in, IsStepOf}
 use Rattle.std.specs.List.{AllZip, AllByRecursion}
 use Rattle.life.specs.Acts.{Act}
 use Rattle.life.specs.Reached.{lists_of, HasWorked, HasActed, Reached}
-use Rattle.life.specs.Life.{met, IsLifeOf}
-use Rattle.life.specs.Life.{IsStepOf as IsLifeStep, acts_of as life_acts}
+use Rattle.life.specs.Life.{steps_of, IsLifeOf, IsStepOf as IsLifeStep, acts_of as life_acts}
 use Rattle.life.proofs.OneLife.{one_life}
 use Rattle.c_handles.specs.OneHistory.{IsReaderOf, HasBookOf, IsHistoryOf, agreements, acts_of, ReadersGoOn}
 use Rattle.c_handles.specs.OneHistory.{HandlesHaveOneHistory}
@@ -189,14 +189,15 @@ at_rest trace h store s readers is opened_as of agrees =
       steps : (all : AllActed s trace readers) (history : List Event)
           → IsLifeOf (lists_of s) all.seen (work_in store trace)
           (map (λ reader. map plain (acts_in reader trace)) readers) history
-          → (place : ℕ) → AllZip IsStepOf (acts_of trace readers place) (met place opened history)
+          → (place : ℕ) → AllZip IsStepOf (acts_of trace readers place) (steps_of place new_store history)
       steps all history life place =
           let one : Acted s (acts_of trace readers place) = all.each place in
           let within = subst (λ (l : List (List LoadValue)). AreWithin l
-          (met place opened history)) life.batches (all_within place opened history) in
-          with_texts s.seen.batches [] (acts_of trace readers place) one.seen (met place opened history) one.leads
+          (steps_of place new_store history)) life.batches (all_within place new_store history) in
+          with_texts s.seen.batches [] (acts_of trace readers place) one.seen (steps_of place new_store history)
+          one.leads
           one.behind within
-          (subst (λ (l : List Act). AllZip IsLifeStep l (met place opened history)) (all.plain_acts place)
+          (subst (λ (l : List Act). AllZip IsLifeStep l (steps_of place new_store history)) (all.plain_acts place)
           (life.steps place))
 
 pub handles_have_one_history : HandlesHaveOneHistory

@@ -1,14 +1,14 @@
 -- The acts of a reader in a trace lead from nothing to what it has seen, or to a beginning of that.
 use Rattle.c_handles.proofs.Common.{◌≡◌, ℕ, ◌==◌, Bool, true, false, if◌then◌else◌, List, [], ◌∷◌, refl, sym, ap, ◌∙◌}
-use Rattle.c_handles.proofs.Common.{subst, inl, inr, Option, None, Some, MatchOption, LoadValue, joined, version_of}
-use Rattle.c_handles.proofs.Common.{StartsWith, SeenValue, begins_refl, begins_trans, begins_nil, no_fault, busy_fault}
-use Rattle.c_handles.proofs.Common.{memory_fault, reader_in, any_reader_in, HeldSet, Origin, Made, Lent, Left, Refused}
-use Rattle.c_handles.proofs.Common.{IsReaderFrom, IsEntered, IsEnteredAfter, IsLater, IsStillOut, IsBack, IsBackAfter}
-use Rattle.c_handles.proofs.Common.{IsAfter, HasLeft, IsLeft, Handle, Unused, Open, Closed, Handles, Call, MakesReader}
-use Rattle.c_handles.proofs.Common.{EntersAfter, Leaves, Looks, LooksAt, CountsReader, ClosesReader, AgreesWith, Makes}
-use Rattle.c_handles.proofs.Common.{Turns, HasNumbers, IsMadeAt, EntersIn, EntersAfterIn, DoesToReaders, IsTrace}
-use Rattle.c_handles.proofs.Common.{told_by_notice, told_by_entrance, Look, ReaderAct, AreAnswered, looks_in}
-use Rattle.c_handles.proofs.Common.{entry_acts, acts_at, acts_in}
+use Rattle.c_handles.proofs.Common.{subst, inl, inr, Option, None, Some, MatchOption, LoadValue, joined_loads}
+use Rattle.c_handles.proofs.Common.{version_of, StartsWith, SeenValue, begins_refl, begins_trans, begins_nil, no_fault}
+use Rattle.c_handles.proofs.Common.{busy_fault, memory_fault, reader_in, any_reader_in, HeldSet, Origin, Made, Lent}
+use Rattle.c_handles.proofs.Common.{Left, Refused, IsReaderFrom, IsEntered, IsEnteredAfter, IsLater, IsStillOut, IsBack}
+use Rattle.c_handles.proofs.Common.{IsBackAfter, IsAfter, HasLeft, IsLeft, Handle, Unused, Open, Closed, Handles, Call}
+use Rattle.c_handles.proofs.Common.{MakesReader, EntersAfter, Leaves, Looks, LooksAt, CountsReader, ClosesReader}
+use Rattle.c_handles.proofs.Common.{AgreesWith, Makes, Turns, HasNumbers, IsMadeAt, EntersIn, EntersAfterIn}
+use Rattle.c_handles.proofs.Common.{DoesToReaders, IsTrace, told_by_notice, told_by_entrance, Look, ReaderAct}
+use Rattle.c_handles.proofs.Common.{AreAnswered, looks_in, entry_acts, acts_at, acts_in}
 use Rattle.c_handles.specs.Calls.{Enters}
 use Rattle.c_handles.proofs.Slots.{opened_with, made_at, turned_at, closed_at}
 use Rattle.c_handles.proofs.Entries.{ReaderLeadsAll, leads_append, IsToldIn, entry_leads}
@@ -26,7 +26,7 @@ HasSeen b (Closed held) = HasSeenIn b held.origin held.fault
 
 -- the look-ups that follow are answered in any version that the reader is in
 abbrev pub AnswersIn : List Look → Handle HeldSet → Type 0
-AnswersIn looks y = (v : List (List LoadValue)) → IsIn v y → AreAnswered (joined v) looks
+AnswersIn looks y = (v : List (List LoadValue)) → IsIn v y → AreAnswered (joined_loads v) looks
 
 -- the acts lead from what was seen to what has been seen
 abbrev pub Leads : List (List LoadValue) → List ReaderAct → Handle HeldSet → Type 0

@@ -1,29 +1,29 @@
 -- The texts of a reader's look-ups, at the steps of a history.
 use Rattle.c_handles.proofs.Common.{◌≡◌, ℕ, ◌+◌, ◌==◌, Bool, if◌then◌else◌, List, [], ◌∷◌, ◌++◌, map, length, sym, ap}
-use Rattle.c_handles.proofs.Common.{◌∙◌, subst, arith, length-append, ⊎_elim, ⊤, LoadValue, joined, version_of}
+use Rattle.c_handles.proofs.Common.{◌∙◌, subst, arith, length-append, ⊎_elim, ⊤, LoadValue, joined_loads, version_of}
 use Rattle.c_handles.proofs.Common.{StartsWith, joined-append, begins_trans, Event, State, Enter, Learn, after}
 use Rattle.c_handles.proofs.Common.{state_from, ReaderAct, Entered, Told, AreAnswered, IsStepOf, by_test, either_begins}
 use Rattle.std.specs.List.{AllZip}
 use Rattle.std.proofs.lemmas.List.{append-nil}
 use Rattle.desks.proofs.Runs.{grows}
-use Rattle.life.specs.Life.{Met, Entry, Notice, met_in, met}
-use Rattle.life.specs.Life.{IsStepOf as IsLifeStep}
+use Rattle.life.specs.Life.{Met, Entry, Notice, met_in, steps_of, IsStepOf as IsLifeStep}
 use Rattle.c_handles.proofs.Entries.{ReaderLeads, ReaderLeadsAll, leads_all_begins, plain}
 
 -- ---- two beginnings with the same number of loads have the same loads
 
-no_more : (a b : List (List LoadValue)) → StartsWith a b → version_of a ≡ version_of b → joined a ≡ joined b
+no_more : (a b : List (List LoadValue)) → StartsWith a b → version_of a ≡ version_of b → joined_loads a ≡ joined_loads b
 no_more a b (rest, is) same =
-    let all : joined a ≡ joined b ++ joined rest = ap joined is ∙ joined-append b rest in
-    let n : length (joined a) ≡ length (joined b) + length (joined rest) = ap (length {A = LoadValue}) all
-    ∙ length-append (joined b) (joined rest) in
-    all ∙ none (joined b) (joined rest) (omega (arith, n, same)) where
+    let all : joined_loads a ≡ joined_loads b ++ joined_loads rest = ap joined_loads is ∙ joined-append b rest in
+    let n : length (joined_loads a) ≡ length (joined_loads b) + length (joined_loads rest) =
+    ap (length {A = LoadValue}) all
+    ∙ length-append (joined_loads b) (joined_loads rest) in
+    all ∙ none (joined_loads b) (joined_loads rest) (omega (arith, n, same)) where
       none : (x y : List LoadValue) → length y ≡ 0 → x ++ y ≡ x
       none x [] zero_ = append-nil x
       none x (l ∷ ls) zero_ = absurd (omega (arith, zero_))
 
 same_loads : (fin a b : List (List LoadValue)) → StartsWith fin a → StartsWith fin b → version_of a ≡ version_of b
-    → joined a ≡ joined b
+    → joined_loads a ≡ joined_loads b
 same_loads fin a b p q same =
     ⊎_elim (λ (longer : StartsWith a b). no_more a b longer same)
     (λ (shorter : StartsWith b a). sym (no_more b a shorter (sym same))) (either_begins fin a b p q)
@@ -53,10 +53,11 @@ met_within reader s (Learn other version) fin ms is all = one_within fin (reader
 met_within reader s _ fin ms is all = all
 
 pub all_within : (reader : ℕ) (s : State) (events : List Event)
-    → AreWithin (state_from s events).batches (met reader s events)
+    → AreWithin (state_from s events).batches (steps_of reader s events)
 all_within reader s [] = tt
 all_within reader s (e ∷ events) =
-    met_within reader s e (state_from (after s e) events).batches (met reader (after s e) events) (grows s (e ∷ events))
+    met_within reader s e (state_from (after s e) events).batches (steps_of reader (after s e) events)
+    (grows s (e ∷ events))
     (all_within reader (after s e) events)
 
 -- ---- the acts with their texts
@@ -64,7 +65,8 @@ all_within reader s (e ∷ events) =
 step_with_texts : (fin a : List (List LoadValue)) (act : ReaderAct) (next : List (List LoadValue)) (m : Met)
     → ReaderLeads a act next → StartsWith fin next → IsWithin fin m → IsLifeStep (plain act) m → IsStepOf act m
 step_with_texts fin a (Entered version looks) next (Entry batches seen) leads far within (here, no_less, none) =
-    let same : joined next ≡ joined batches = same_loads fin next batches far within (sym leads.version_is ∙ here) in
+    let same : joined_loads next ≡ joined_loads batches =
+    same_loads fin next batches far within (sym leads.version_is ∙ here) in
     (here, no_less, subst (λ (l : List LoadValue). AreAnswered l looks) same leads.answered)
 step_with_texts fin a (Told version) next (Notice told) leads far within is = is
 step_with_texts fin a _ next _ leads far within is = absurd is

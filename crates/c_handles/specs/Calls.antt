@@ -1,7 +1,7 @@
 -- The handles of a C program, and what each call of the library does to them.
 use Rattle.std.specs.Prelude.{◌≡◌, ◌==◌, ◌≤◌, ⊤, ℕ, List, [], ◌∷◌, Option, None, false}
 use Rattle.std.specs.Option.{option_map}
-use Rattle.live_set.specs.SetPlaces.{listed, most_places}
+use Rattle.live_set.specs.SetPlaces.{listed_places, most_places}
 use Rattle.live_set.specs.declared.places.Places.{Places}
 use Rattle.live_loads.specs.Batches.{version_of}
 use Rattle.live_loads.specs.Seen.{SeenValue}
@@ -181,7 +181,7 @@ pub record LooksAtIn (domain languages : List ℕ) (places : Places) (question :
     (reader : HeldSet) : Type 0 where
   pub places_are : AreSetPlaces reader domain languages places
   pub few : places.count ≤ most_places
-  pub answer : IsSetAnswerAt reader (listed places) question text
+  pub answer : IsSetAnswerAt reader (listed_places places) question text
 
 -- what `agree` says of a store and a reader at hand, if they are of one store
 abbrev pub AgreesIn : HeldStore → HeldSet → Type 0

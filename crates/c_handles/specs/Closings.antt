@@ -4,18 +4,18 @@ use Rattle.c_handles.specs.Calls.{Handle, Unused, Open, Closed, Handles, Call, C
 use Rattle.c_handles.specs.Calls.{ClosesEntrance, ClosesReader, no_handles, IsTrace}
 
 -- the handle before it was closed
-abbrev pub kept : {V : Type 0} → Handle V → Handle V
-kept Unused = Unused
-kept (Open value) = Open value
-kept (Closed value) = Open value
+abbrev pub before_closing : {V : Type 0} → Handle V → Handle V
+before_closing Unused = Unused
+before_closing (Open value) = Open value
+before_closing (Closed value) = Open value
 
 -- all handles before any was closed
 abbrev pub all_kept : Handles → Handles
 all_kept h = record {
-  stores = λ n. kept (h.stores n);
-  notices = λ n. kept (h.notices n);
-  entrances = λ n. kept (h.entrances n);
-  readers = λ n. kept (h.readers n);
+  stores = λ n. before_closing (h.stores n);
+  notices = λ n. before_closing (h.notices n);
+  entrances = λ n. before_closing (h.entrances n);
+  readers = λ n. before_closing (h.readers n);
 }
 
 -- the calls of a trace before the closings, if these are listed last

@@ -5,9 +5,8 @@ use Rattle.std.specs.List.{AllByRecursion}
 use Rattle.std.specs.Option.{option_map_or}
 use Rattle.std.specs.Arc.{arc_value}
 use Rattle.live_set.specs.Loads.{LoadValue}
-use Rattle.live_loads.specs.Batches.{joined, version_of}
-use Rattle.live_versions.specs.History.{Event, Accept, Refuse}
-use Rattle.live_versions.specs.History.{Publish as PublishEvent}
+use Rattle.live_loads.specs.Batches.{joined_loads, version_of}
+use Rattle.live_versions.specs.History.{Event, Accept, Refuse, Publish as PublishEvent}
 use Rattle.life.specs.Life.{Met, Entry, Notice}
 use Rattle.c_answers.specs.Answering.{Question}
 use Rattle.c_answers.specs.Numbers.{no_fault}
@@ -121,6 +120,6 @@ GoOn seen (Told version ∷ acts) = GoOn (max seen version) acts
 -- reader had seen, and each text is its question's answer over all loads that are published there.
 abbrev pub IsStepOf : ReaderAct → Met → Type 0
 IsStepOf (Entered version looks) (Entry batches seen) = (version ≡ version_of batches) × (seen ≤ version)
-    × AreAnswered (joined batches) looks
+    × AreAnswered (joined_loads batches) looks
 IsStepOf (Told version) (Notice told) = told ≡ version
 IsStepOf _ _ = ⊥

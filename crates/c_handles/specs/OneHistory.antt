@@ -3,9 +3,9 @@ use Rattle.std.specs.Prelude.{◌≡◌, ◌⊎◌, ℕ, List, [], ◌∷◌, �
 use Rattle.std.specs.List.{AllZip, AllByRecursion}
 use Rattle.live_loads.specs.Store.{StoreValue}
 use Rattle.c_sets.specs.declared.sets.HeldSet.{HeldSet}
-use Rattle.live_versions.specs.History.{Event, opened, state_of, IsLegal}
+use Rattle.live_versions.specs.History.{Event, new_store, state_of, IsLegal}
 use Rattle.desks.specs.ServedHistory.{without_entries}
-use Rattle.life.specs.Life.{met}
+use Rattle.life.specs.Life.{steps_of}
 use Rattle.c_handles.specs.Calls.{Handle, Handles, Call, MakesEntrance, MakesReader, AgreesWith, no_handles, IsTrace}
 use Rattle.c_handles.specs.Calls.{store_in, view_in}
 use Rattle.c_handles.specs.HandleActs.{ReaderAct, work_in, acts_in, GoOn, IsStepOf}
@@ -49,7 +49,7 @@ pub record IsHistoryOf (s : StoreValue) (store : ℕ) (trace : List Call) (reade
   pub batches : (state_of history).batches ≡ s.seen.batches
   pub pending : (state_of history).pending ≡ s.pending
   pub work_is : without_entries history ≡ work_in store trace
-  pub steps : (place : ℕ) → AllZip IsStepOf (acts_of trace readers place) (met place opened history)
+  pub steps : (place : ℕ) → AllZip IsStepOf (acts_of trace readers place) (steps_of place new_store history)
 
 -- ---- the laws
 

@@ -105,10 +105,10 @@ fault_part f which =
     else (if which == fault_difference then difference_number f.difference else 0)))
 
 -- a number of what was made: why there is none, and the line of the fault; how many faults it lists, or a number of the
--- one at this place
+-- one at this index
 abbrev pub output_number : HeldOutput → ℕ → ℕ → ℕ
-output_number o which place =
+output_number o which index =
     if which == the_fault then o.fault
     else (if which == the_line then o.line
     else (if which == the_count then length (faults_in o.output)
-    else option_map_or (λ f. fault_part f which) (slice_get (faults_in o.output) place) 0))
+    else option_map_or (λ f. fault_part f which) (slice_get (faults_in o.output) index) 0))

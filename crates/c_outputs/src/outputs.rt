@@ -174,11 +174,11 @@ fn faults_of<'k>(held: &'k HeldOutput) -> &'k [Fault]
     }
 }
 
-/// Fault `place`, if there is one.
-fn fault_at<'k>(held: &'k HeldOutput, place: u64) -> Option<&'k Fault>
-    ensures { option_map (λ fault. fault.now) result ≡ slice_get (faults_in held.now.output) place }
+/// Fault `index`, if there is one.
+fn fault_at<'k>(held: &'k HeldOutput, index: u64) -> Option<&'k Fault>
+    ensures { option_map (λ fault. fault.now) result ≡ slice_get (faults_in held.now.output) index }
 {
-    faults_of(held).get(place as usize)
+    faults_of(held).get(index as usize)
 }
 
 /// The number in `kobdzila.h` of a language.
@@ -213,15 +213,15 @@ fn fault_part(fault: Fault, which: u32) -> u64
 }
 
 /// A number of what was made: its `FAULT`, the fault's `LINE`, the `COUNT` of the faults in it, or a number of fault
-/// `place` (`fault_part`).
-pub fn output_number(held: &HeldOutput, which: u32, place: u64) -> u64
-    ensures { result ≡ output_number held.now which place }
+/// `index` (`fault_part`).
+pub fn output_number(held: &HeldOutput, which: u32, index: u64) -> u64
+    ensures { result ≡ output_number held.now which index }
 {
     match which {
         FAULT => u64::from(held.fault),
         LINE => u64::from(held.line),
         COUNT => faults_of(held).len() as u64,
-        _ => match fault_at(held, place) {
+        _ => match fault_at(held, index) {
             Some(fault) => fault_part(*fault, which),
             None => 0,
         },

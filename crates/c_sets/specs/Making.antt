@@ -9,7 +9,7 @@ use Rattle.live_set.specs.Names.{IsName}
 use Rattle.live_set.specs.Sets.{SetValue, HasAbsorbed, fold, map_in, no_loads}
 use Rattle.live_set.specs.declared.name.NameFault.{NameFault}
 use Rattle.live_set.specs.declared.name.NameFault.TheVariants.{BadName, Memory}
-use Rattle.live_loads.specs.Batches.{joined, version_of}
+use Rattle.live_loads.specs.Batches.{joined_loads, version_of}
 use Rattle.live_loads.specs.Seen.{SeenValue}
 use Rattle.c_answers.specs.declared.opened.Opened.{Opened}
 use Rattle.c_sets.specs.declared.sets.HeldSet.{HeldSet}
@@ -26,7 +26,7 @@ name_number Memory = memory_fault
 -- the set that was made, or that of the version that the reader is in, or that of one that left; none if it was refused
 abbrev pub set_in : Origin → Option SetValue
 set_in (Made set) = Some set
-set_in (Lent reader) = Some (fold (joined reader.batches))
+set_in (Lent reader) = Some (fold (joined_loads reader.batches))
 set_in (Left reader set) = Some set
 set_in Refused = None
 
@@ -104,12 +104,12 @@ set_number s which =
     if which == the_fault then s.fault else (if which == the_version then version_in s.origin else 0)
 
 -- the map that answers a question in a text domain and a list of languages
-abbrev pub answering : SetValue → List ℕ → List ℕ → Question → List Entry
-answering set domain languages q = map_with (map_in set.held) domain languages (key_of q)
+abbrev pub answering_entries : SetValue → List ℕ → List ℕ → Question → List Entry
+answering_entries set domain languages q = map_with (map_in set.held) domain languages (key_of q)
 
 -- the answer to a question there; no bytes if the domain or the list isn't UTF-8
 pub record IsAnswerIn (set : SetValue) (domain languages : List ℕ) (q : Question) (text : List ℕ) : Type 0 where
-  pub asked : IsUtf8 domain → IsUtf8 languages → IsClosedAnswer (answering set domain languages q) q text
+  pub asked : IsUtf8 domain → IsUtf8 languages → IsClosedAnswer (answering_entries set domain languages q) q text
   pub no_domain : ¬ IsUtf8 domain → text ≡ []
   pub no_languages : ¬ IsUtf8 languages → text ≡ []
 
@@ -128,7 +128,7 @@ pub record IsAnswerOver (loads : List LoadValue) (domain languages : List ℕ) (
 -- that the reader is in
 abbrev pub IsAnswerFrom : Origin → List ℕ → List ℕ → Question → List ℕ → Type 0
 IsAnswerFrom (Made set) domain languages q text = IsAnswerIn set domain languages q text
-IsAnswerFrom (Lent reader) domain languages q text = IsAnswerOver (joined reader.batches) domain languages q text
+IsAnswerFrom (Lent reader) domain languages q text = IsAnswerOver (joined_loads reader.batches) domain languages q text
 IsAnswerFrom (Left reader set) domain languages q text = IsAnswerIn set domain languages q text
 IsAnswerFrom Refused domain languages q text = text ≡ []
 

@@ -4,7 +4,7 @@ use Rattle.std.specs.Option.{option_map, option_map_or}
 use Rattle.std.specs.Arc.{arc_value}
 use Rattle.mo_image.specs.Entry.{Entry}
 use Rattle.live_set.specs.Sets.{no_loads}
-use Rattle.live_loads.specs.Batches.{StartsWith, published, version_of}
+use Rattle.live_loads.specs.Batches.{StartsWith, after_publish, version_of}
 use Rattle.live_loads.specs.Seen.{SeenValue}
 use Rattle.live_loads.specs.Store.{StoreValue, AddsLoad}
 use Rattle.live_loads.specs.declared.fault.StoreFault.{StoreFault}
@@ -55,7 +55,7 @@ IsLoaded before domain locale opened after = MatchOption before.publisher
 -- all pending loads are published, as one batch
 pub record HasPublished (old new : StoreValue) : Type 0 where
   pub book : new.seen.book ≡ old.seen.book
-  pub batches : new.seen.batches ≡ published old.seen.batches old.pending
+  pub batches : new.seen.batches ≡ after_publish old.seen.batches old.pending
   pub pending : new.pending ≡ []
   pub most : new.most ≡ old.most
 

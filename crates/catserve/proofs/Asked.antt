@@ -2,13 +2,13 @@
 use Rattle.catserve.proofs.Common.{◌≡◌, ◌≢◌, ◌∙◌, refl, sym, ap, ℕ, zero, suc, ◌+◌, ◌<◌, ◌≤◌, max, List, [], ◌∷◌, drop}
 use Rattle.catserve.proofs.Common.{◌++◌, length, take, set, All, arith, length-append, get_or, Bool, false, nat_lt}
 use Rattle.catserve.proofs.Common.{◌||◌, take-append_seam, append-nil, length-map, take_all, false≢true, lt-ltb, ne_eqb}
-use Rattle.catserve.proofs.Common.{eq-eqb, AllZip, list_any, LoadValue, QueryValue, IsAnswer, joined, version_of}
+use Rattle.catserve.proofs.Common.{eq-eqb, AllZip, list_any, LoadValue, QueryValue, IsAnswer, joined_loads, version_of}
 use Rattle.catserve.proofs.Common.{SeenValue, StoreValue, Desk, QuestionValue, query_for, queries_for, answer_line}
 use Rattle.catserve.proofs.Common.{Answers, AnswersInTurn, readers_of, AreAsked, GivesOne, answer_lines, desk_lines}
 use Rattle.catserve.proofs.Common.{is_asked, IsFreed, AreReady, HaveBook}
 use Rattle.std.proofs.lemmas.List.Elements.{All-nil, All-cons, filter_map-append}
 use Rattle.std.specs.String.{string_bytes}
-use Rattle.desks.specs.Jobs.{JobValue, Outcome, HasDone, after_publish}
+use Rattle.desks.specs.Jobs.{JobValue, Outcome, HasDone, store_after_publish}
 use Rattle.desks.specs.Answers.{Answered}
 use Rattle.desks.specs.Desks.{IsServed}
 use Rattle.desks.specs.declared.desk.Answer.{Answer}
@@ -94,20 +94,20 @@ gives_none (desk ∷ desks) (suc worker) query beyond = (refl, gives_none desks 
 answered_all : (batches : List (List LoadValue)) (least : ℕ) (queries : List QueryValue) (answers : List Answer)
     → version_of batches ≤ least → Answered batches least queries answers → AllZip
     (λ (query : QueryValue) (answer : Answer). (answer.version ≡ version_of batches)
-    × IsAnswer (joined batches) query (string_bytes answer.text)) queries answers
+    × IsAnswer (joined_loads batches) query (string_bytes answer.text)) queries answers
 answered_all batches least [] [] last h = tt
 answered_all batches least (query ∷ queries) (answer ∷ answers) last (from, is, more) =
     let (rest, e) = is.begins in
-    let whole = ap joined e ∙ joined-append is.front rest in
+    let whole = ap joined_loads e ∙ joined-append is.front rest in
     let all : answer.version ≡ version_of batches = omega (
       arith,
       from,
       last,
       is.version_is,
       ap length whole,
-      length-append (joined is.front) (joined rest),
+      length-append (joined_loads is.front) (joined_loads rest),
     ) in (
-      (all, rw (take_all answer.version (joined batches) (omega arith)) at is.text_is),
+      (all, rw (take_all answer.version (joined_loads batches) (omega arith)) at is.text_is),
       answered_all batches answer.version queries answers (omega arith) more,
     )
 answered_all batches least _ _ last h = absurd h
@@ -129,12 +129,12 @@ lines_of loads worker _ _ h = absurd h
 -- the answers of desks that were served, where nothing was published meanwhile
 pub answers_in_turn : (start end : SeenValue) (questions : List QuestionValue) (worker : ℕ) (asked served : List Desk)
     → end.batches ≡ start.batches → AreAsked worker questions asked → AllZip (IsServed start end) asked served
-    → AnswersInTurn (joined end.batches) questions worker (length asked) (desk_lines worker served)
+    → AnswersInTurn (joined_loads end.batches) questions worker (length asked) (desk_lines worker served)
 answers_in_turn start end questions worker [] [] same given all = refl
 answers_in_turn start end questions worker (desk ∷ asked) (s ∷ served) same given all = (
   answer_lines worker s.answers.items,
   desk_lines (worker + 1) served,
-  rw given.0 at (lines_of (joined end.batches) worker desk.queries.items s.answers.items
+  rw given.0 at (lines_of (joined_loads end.batches) worker desk.queries.items s.answers.items
       (answered_all end.batches (max (version_of desk.reader.batches) (version_of start.batches)) desk.queries.items
       s.answers.items (omega (arith, ap version_of same)) all.0.answered)),
   answers_in_turn start end questions (worker + 1) asked served same given.1 all.1,
@@ -242,6 +242,6 @@ pub done_none : (s after : StoreValue) (jobs : List JobValue) (outcomes : List O
 done_none s after jobs outcomes none empty done =
     by_outcomes outcomes (rw none at done) ∙ rw (empty, ← empty) refl
   where
-    by_outcomes : (outcomes : List Outcome) → HasDone s [] outcomes after → after ≡ after_publish s
+    by_outcomes : (outcomes : List Outcome) → HasDone s [] outcomes after → after ≡ store_after_publish s
     by_outcomes [] done = done
     by_outcomes (o ∷ os) done = absurd done

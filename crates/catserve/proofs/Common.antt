@@ -19,21 +19,21 @@ pub use Rattle.std.proofs.lemmas.Result.{err_from_is_err_and}
 pub use Rattle.std.proofs.lemmas.Str.{IsUtf8-append, IsUtf8-nil}
 pub use Rattle.catalogue.specs.Entry.{Entry, HasForms, IsLawfulEntry, key_bytes}
 pub use Rattle.live_set.specs.Asks.{AskValue, Context, ContextNumber, HasValue, IsAnswer, Number, Plain, QueryValue}
-pub use Rattle.live_set.specs.Asks.{answering, first_with, has_key, key_of}
+pub use Rattle.live_set.specs.Asks.{answering_map, first_with, has_key, key_of}
 pub use Rattle.live_set.specs.Loads.{LoadValue, is_for, map_of, map_or_empty}
-pub use Rattle.live_versions.specs.Batches.{joined, published, version_of}
+pub use Rattle.live_versions.specs.Batches.{joined_loads, after_publish, version_of}
 pub use Rattle.live_versions.specs.Seen.{SeenValue}
 pub use Rattle.live_versions.specs.Store.{HasRoom, StoreValue}
 pub use Rattle.desks.specs.declared.desk.Desk.{Desk}
 pub use Rattle.devices.specs.Devices.{InputSeen, OutputSeen, input_seen, most_reads, output_seen}
 pub use Rattle.devices.specs.Incoming.{EndsLine, EndsLines, Incoming, MayCome}
 pub use Rattle.devices.specs.Lines.{lines, without_end}
-pub use Rattle.devices.specs.Logs.{AnswersFirst, Event, Gave, Grows, Log, came, given}
+pub use Rattle.devices.specs.Logs.{AnswersFirst, Event, Gave, Grows, Log, came, given_bytes}
 pub use Rattle.devices.specs.Waiting.{ReadsWhile, StillCounts, StillWaits, Waits}
 pub use Rattle.devices.proofs.Arriving.{consumes_both, consumes_none, rises_both, rises_later, rises_none}
-pub use Rattle.script_text.specs.CommandValues.{command_with, listed, text_lines}
+pub use Rattle.script_text.specs.CommandValues.{command_with, command_list, text_lines}
 pub use Rattle.script_text.specs.Commands.{Line, Loads, is_blank, line_of, workers_line}
-pub use Rattle.script_text.specs.Gathering.{Gathered, all_rounds, empty_round, gathered, going_on, loads_so_far}
+pub use Rattle.script_text.specs.Gathering.{Gathered, all_rounds, empty_round, gathered_with, going_on, loads_so_far}
 pub use Rattle.script_text.specs.Gathering.{nothing, onto_open, so_far}
 pub use Rattle.script_text.specs.Script.{Ask, Command, Go, Load, QuestionValue, RoundValue, Says, ScriptValue, and_then}
 pub use Rattle.script_text.specs.Script.{commands_from, queries_for, query_for, rounds_of, script, script_from}
@@ -48,9 +48,9 @@ pub use Rattle.catserve.specs.Hearing.{BeginAlike, Begins, CountsOn, EndsNext, F
 pub use Rattle.catserve.specs.Hearing.{HasGot, HasPassed, HasSaid, HasTaken, HearingValue, Hears, HearsBad, HearsEnd}
 pub use Rattle.catserve.specs.Hearing.{HearsNoLine, HearsNoText, HearsNone, HearsNothing, HearsOne, HearsText}
 pub use Rattle.catserve.specs.Hearing.{HearsTooMuch, HearsUndecodable, IsUnsaid, Stays, command_of, commands_of}
-pub use Rattle.catserve.specs.Hearing.{line_of_kind, silence, size_behind, unheard}
+pub use Rattle.catserve.specs.Hearing.{line_of_kind, silence, size_behind, unheard_session}
 pub use Rattle.catserve.specs.Laws.{HasOneOutput, HasSomeOutput, HaveFirstOutput, IsInFront}
-pub use Rattle.catserve.specs.Output.{answer_line, escape, escaped, version_line}
+pub use Rattle.catserve.specs.Output.{answer_line, escape, escaped_text, version_line}
 pub use Rattle.catserve.specs.Rounds.{Accepted, Answers, AnswersInTurn, Brings, HasOutput, IsOutcome, IsSourceFault}
 pub use Rattle.catserve.specs.Rounds.{Plays, PlaysAll, Refused, RefusedMo, Unnamed, accepted_load, job_source}
 pub use Rattle.catserve.specs.Rounds.{outcome_line}
@@ -59,7 +59,7 @@ pub use Rattle.catserve.specs.Running.{AreReady, CutsShort, EndsPlaying, Finishe
 pub use Rattle.catserve.specs.Running.{HaveBook, IsLineOf, IsOpenKind, LoadsAll, LoadsOne, PlaysOne, kind_in_memory}
 pub use Rattle.catserve.specs.Running.{load_of, load_source}
 pub use Rattle.catserve.specs.Session.{AnswersAll, AnswersInTime, BreaksOff, EndsFor, HaveEnded, IsAnswered}
-pub use Rattle.catserve.specs.Session.{Stops, StopsEarly, coming, most_lines, round_end, said}
+pub use Rattle.catserve.specs.Session.{Stops, StopsEarly, rest_to_come, most_lines, round_end, session_script}
 pub use Rattle.catserve.specs.Talking.{AnswersRound, BreaksRound, Conversing, FailsToAnswer, GivesQuestion, HasHeard}
 pub use Rattle.catserve.specs.Talking.{HasOpen, HasTalked, IsFresh, MakesLoad, PlayerValue, Responds}
 pub use Rattle.catserve.specs.Timing.{BeginsInTime, ContinuesInTime, GivesSome, HearsInTime, InTime, ReadsOpen}

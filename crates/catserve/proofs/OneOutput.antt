@@ -2,9 +2,9 @@
 use Rattle.catserve.proofs.Common.{◌≡◌, ◌∙◌, refl, sym, ap, ℕ, zero, suc, ◌+◌, List, [], ◌∷◌, ◌++◌, length, Option}
 use Rattle.catserve.proofs.Common.{Some, None, AllZip, filter_map, flat_map, Entry, key_bytes, LoadValue, map_of}
 use Rattle.catserve.proofs.Common.{AskValue, Plain, Context, Number, ContextNumber, QueryValue, HasValue, IsAnswer}
-use Rattle.catserve.proofs.Common.{answering, QuestionValue, RoundValue, queries_for, script, answer_line, version_line}
-use Rattle.catserve.proofs.Common.{Accepted, Refused, RefusedMo, Unnamed, IsOutcome, outcome_line, accepted_load}
-use Rattle.catserve.proofs.Common.{Answers, AnswersInTurn, Plays, PlaysAll, HasOneOutput}
+use Rattle.catserve.proofs.Common.{answering_map, QuestionValue, RoundValue, queries_for, script, answer_line}
+use Rattle.catserve.proofs.Common.{version_line, Accepted, Refused, RefusedMo, Unnamed, IsOutcome, outcome_line}
+use Rattle.catserve.proofs.Common.{accepted_load, Answers, AnswersInTurn, Plays, PlaysAll, HasOneOutput}
 use Rattle.po_header.specs.Rule.{Rule}
 use Rattle.po_header.proofs.RuleLemmas.{HasRule-one}
 use Rattle.catalogue.specs.Map.{header_text, entry_at}
@@ -46,7 +46,7 @@ value_one m (ContextNumber context id plural n) t u h k = counted_one m (entry_a
     (text_by n id plural) t u h k
 
 answer_one : (loads : List LoadValue) (q : QueryValue) (t u : List ℕ) → IsAnswer loads q t → IsAnswer loads q u → t ≡ u
-answer_one loads q t u h k = value_one (answering (map_of loads) q) q.ask t u h k
+answer_one loads q t u h k = value_one (answering_map (map_of loads) q) q.ask t u h k
 
 answers_one : (loads : List LoadValue) (worker : ℕ) (queries : List QueryValue) (output other : List ℕ)
     → Answers loads worker queries output → Answers loads worker queries other → output ≡ other

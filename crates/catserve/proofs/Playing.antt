@@ -1,7 +1,8 @@
 -- A round, step by step.
 use Rattle.catserve.proofs.Common.{◌≡◌, ◌∙◌, refl, sym, ap, ℕ, ◌≤◌, List, [], ◌∷◌, ◌++◌, append_assoc, arith, length}
 use Rattle.catserve.proofs.Common.{length-append, None, Result, Ok, Err, IfOk, IfErr, OnErr, append-nil, flat_map_more}
-use Rattle.catserve.proofs.Common.{AllZip, filter_map, flat_map, LoadValue, joined, version_of, published, StoreValue}
+use Rattle.catserve.proofs.Common.{AllZip, filter_map, flat_map, LoadValue, joined_loads, version_of, after_publish}
+use Rattle.catserve.proofs.Common.{StoreValue}
 use Rattle.catserve.proofs.Common.{RoundValue, version_line, Accepted, Refused, RefusedMo, Unnamed, IsOutcome}
 use Rattle.catserve.proofs.Common.{outcome_line, accepted_load, job_source, AnswersInTurn, PlaysAll, LoadsOne, LoadsAll}
 use Rattle.catserve.proofs.Common.{PlaysOne, HasPlayed, IsLineOf, load_of, load_source}
@@ -93,9 +94,9 @@ few_outcomes loads outcomes each = omega (arith, few_accepted outcomes, AllZip-l
 pub plays_one : {workers : ℕ} {round : RoundValue} {was : StoreValue} (loaded : StoreValue) {now : StoreValue}
     (version : ℕ) {a b : List ℕ} (c : List ℕ) {d : List ℕ} (answers : List ℕ) → was.pending ≡ []
     → LoadsAll round.loads was.pending loaded.pending a b → loaded.seen ≡ was.seen
-    → now.seen.batches ≡ published loaded.seen.batches loaded.pending → now.pending ≡ [] → now.most ≡ was.most
+    → now.seen.batches ≡ after_publish loaded.seen.batches loaded.pending → now.pending ≡ [] → now.most ≡ was.most
     → version ≡ version_of now.seen.batches → c ≡ b ++ version_line version
-    → AnswersInTurn (joined now.seen.batches) round.questions 0 workers answers → d ≡ c ++ answers
+    → AnswersInTurn (joined_loads now.seen.batches) round.questions 0 workers answers → d ≡ c ++ answers
     → PlaysOne workers round was now a d
 plays_one loaded {now} version {a} {b} c answers none all front shown empty most is_version c_is answered
     d_is =
@@ -125,7 +126,7 @@ plays_more {rounds} {round} {now} {after} {output} played one = record {
   going = λ rest tail all. rw (append_assoc rounds (round ∷ []) rest)
       (rw (← (ap (λ xs. xs ++ tail) one.written ∙ append_assoc output one.output tail)) at
       (played.going (round ∷ rest) (one.output ++ tail) (
-        joined after.seen.batches,
+        joined_loads after.seen.batches,
         one.output,
         tail,
         one.plays,
@@ -138,7 +139,7 @@ plays_more {rounds} {round} {now} {after} {output} played one = record {
     played.few,
     sum_by-append (λ (r : RoundValue). length r.loads) rounds (round ∷ []),
     ap length one.plays.after_is,
-    length-append (joined now.seen.batches) (filter_map accepted_load one.plays.outcomes),
+    length-append (joined_loads now.seen.batches) (filter_map accepted_load one.plays.outcomes),
     few_outcomes round.loads one.plays.outcomes one.plays.loaded,
   );
   most = one.most ∙ played.most;
@@ -146,7 +147,7 @@ plays_more {rounds} {round} {now} {after} {output} played one = record {
 
 -- all rounds
 pub plays_all : {workers : ℕ} {rounds : List RoundValue} {was now : StoreValue} {output : List ℕ}
-    → HasPlayed workers rounds was now output → PlaysAll workers (joined was.seen.batches) rounds output
+    → HasPlayed workers rounds was now output → PlaysAll workers (joined_loads was.seen.batches) rounds output
 plays_all {rounds} {output} played = rw (append-nil output) at (rw (append-nil rounds) at (played.going [] [] refl))
 
 pub plays_none : {workers : ℕ} {was : StoreValue} → was.pending ≡ [] → HasPlayed workers [] was was []

@@ -1,9 +1,9 @@
 -- A script that is played line by line.
 use Rattle.catserve.proofs.Common.{◌≡◌, ℕ, ◌+◌, ◌<◌, ◌≤◌, true, false, List, [], ◌∷◌, ◌++◌, fold, length, arith, Option}
-use Rattle.catserve.proofs.Common.{Some, None, flat_map, Appends, Appends-nil, Appends-trans, HasRoom, listed, Command}
-use Rattle.catserve.proofs.Common.{Go, Gathered, all_rounds, gathered, loads_so_far, nothing, so_far, few_more}
-use Rattle.catserve.proofs.Common.{rounds_are, so_far-snoc, OutputSeen, Log, PlaysAll, HasPlayedAll, AnswersRound}
-use Rattle.catserve.proofs.Common.{HasTalked, IsFresh, PlayerValue, Responds, RespondsInTime}
+use Rattle.catserve.proofs.Common.{Some, None, flat_map, Appends, Appends-nil, Appends-trans, HasRoom, command_list}
+use Rattle.catserve.proofs.Common.{Command, Go, Gathered, all_rounds, gathered_with, loads_so_far, nothing, so_far}
+use Rattle.catserve.proofs.Common.{few_more, rounds_are, so_far-snoc, OutputSeen, Log, PlaysAll, HasPlayedAll}
+use Rattle.catserve.proofs.Common.{AnswersRound, HasTalked, IsFresh, PlayerValue, Responds, RespondsInTime}
 use Rattle.catserve.proofs.Playing.{plays_all}
 use Rattle.catserve.proofs.SessionTalk.{answers_one, room_left, talked_more, talked_none}
 use Rattle.catserve.proofs.SessionEnds.{nothing_open, one_open}
@@ -21,10 +21,10 @@ comes_none {old} fresh = record { written = []; talked = talked_none fresh; outp
 
 -- each line has one load at most
 few_loads : (said : List (Option Command)) (g : Gathered)
-    → loads_so_far (fold gathered g (flat_map listed said)) ≤ loads_so_far g + length said
+    → loads_so_far (fold gathered_with g (flat_map command_list said)) ≤ loads_so_far g + length said
 few_loads [] g = omega arith
 few_loads (None ∷ said) g = omega (arith, few_loads said g)
-few_loads (Some command ∷ said) g = omega (arith, few_more g (Some command), few_loads said (gathered g command))
+few_loads (Some command ∷ said) g = omega (arith, few_more g (Some command), few_loads said (gathered_with g command))
 
 -- so there is room for the next one
 pub room_for : {workers : ℕ} {said : List (Option Command)} {start talk : PlayerValue} {old new : Option (List ℕ)}
@@ -49,24 +49,24 @@ comes_more {said} {old} {new} {first} o o' a b command come responds =
 -- no round is open at the end
 pub plays_idle : {workers : ℕ} {said : List (Option Command)} {start talk : PlayerValue} {old new : Option (List ℕ)}
     → HasCome workers said start talk old new → IsFresh workers start → talk.begun ≡ false
-    → HasPlayedAll workers (flat_map listed said) old new
+    → HasPlayedAll workers (flat_map command_list said) old new
 plays_idle {workers} {said} {talk} come fresh idle =
     let plays : PlaysAll workers [] (all_rounds (so_far said)) come.written =
     rw (← nothing_open (so_far said) talk.begun come.talked.begun idle) at (rw fresh.none_published at
     (plays_all come.talked.played)) in
-    (come.written, rw (rounds_are (flat_map listed said)) at plays, come.output)
+    (come.written, rw (rounds_are (flat_map command_list said)) at plays, come.output)
 
 -- the last round was answered
 pub plays_last : {workers : ℕ} {said : List (Option Command)} {start talk after : PlayerValue}
     {first : Option (List ℕ)} {o o' : OutputSeen} → HasCome workers said start talk first o.bytes
     → IsFresh workers start → talk.begun ≡ true → AnswersRound talk after o o'
-    → HasPlayedAll workers (flat_map listed said) first o'.bytes
+    → HasPlayedAll workers (flat_map command_list said) first o'.bytes
 plays_last {workers} {said} {talk} {first} {o} {o'} come fresh busy answers =
     let output = come.written ++ answers.lines in
     let plays : PlaysAll workers [] (all_rounds (so_far said)) output =
     rw (← one_open (so_far said) talk.begun come.talked.begun busy) at (rw fresh.none_published at
     (plays_all (answers_one come.talked answers))) in (
       output,
-      rw (rounds_are (flat_map listed said)) at plays,
+      rw (rounds_are (flat_map command_list said)) at plays,
       Appends-trans first o.bytes o'.bytes come.written answers.lines come.output answers.written,
     )

@@ -4,11 +4,11 @@ use Rattle.catserve.proofs.Common.{◌∷◌, ◌++◌, length, arith, inl, inr,
 use Rattle.catserve.proofs.Common.{concat, Appends, Consumes, Appends-nil, Appends-trans, append-nil, concat-append}
 use Rattle.catserve.proofs.Common.{IsUtf8-append, IsUtf8-nil, InputSeen, OutputSeen, lines, MayCome, consumes_both}
 use Rattle.catserve.proofs.Common.{RoundValue, commands_from, script_of, most_script, Gathered, empty_round, going_on}
-use Rattle.catserve.proofs.Common.{onto_open, both_empty, ScriptKind, PlaysAll, IsOpenKind, said, round_end, HaveEnded}
-use Rattle.catserve.proofs.Common.{Stops, AnswersAll, StopsEarly, EndsFor, most_lines, BreaksOff, HearingValue}
-use Rattle.catserve.proofs.Common.{HasTaken, Stays, HearsBad, HearsEnd, HearsNone, HearsNoLine, Begins, silence}
-use Rattle.catserve.proofs.Common.{unheard, HasPassed, FailsInPreamble, HearsTooMuch, HearsUndecodable, PlayerValue}
-use Rattle.catserve.proofs.Common.{AnswersRound, BreaksRound, FailsToAnswer, IsFresh, Conversing}
+use Rattle.catserve.proofs.Common.{onto_open, both_empty, ScriptKind, PlaysAll, IsOpenKind, session_script, round_end}
+use Rattle.catserve.proofs.Common.{HaveEnded, Stops, AnswersAll, StopsEarly, EndsFor, most_lines, BreaksOff}
+use Rattle.catserve.proofs.Common.{HearingValue, HasTaken, Stays, HearsBad, HearsEnd, HearsNone, HearsNoLine, Begins}
+use Rattle.catserve.proofs.Common.{silence, unheard_session, HasPassed, FailsInPreamble, HearsTooMuch, HearsUndecodable}
+use Rattle.catserve.proofs.Common.{PlayerValue, AnswersRound, BreaksRound, FailsToAnswer, IsFresh, Conversing}
 use Rattle.devices.proofs.Arriving.{both}
 use Rattle.script_text.specs.declared.fault.ScriptKind.TheVariants as kind
 use Rattle.catserve.proofs.Playing.{plays_all}
@@ -142,7 +142,7 @@ none_answered {given} {o} {front} {workers} taken number size ended = record {
 
 -- nothing is played before the first command
 abbrev pub front_answered : {i j : InputSeen} {o : OutputSeen} {y : HearingValue} {front : List (List ℕ)}
-    → HasPassed i j unheard y front → Answered None i j o o y front
+    → HasPassed i j unheard_session y front → Answered None i j o o y front
 front_answered passed = none_answered passed.taken (omega (arith, passed.number)) (omega (arith, passed.size))
     (record { last = empty_round; says = passed.passes (round_end ∷ []) ∙ refl })
 
@@ -154,7 +154,7 @@ front_ends {k} o {kind} {line} f =
 -- nothing at all was heard
 pub ends_at_once : {given : Option ℕ} {i : InputSeen} {o : OutputSeen} → StopsEarly given i i o o
 ends_at_once {given} =
-    stops_early (none_answered {y = unheard} taken_none (omega arith) refl (ended_first given).1) stays_put
+    stops_early (none_answered {y = unheard_session} taken_none (omega arith) refl (ended_first given).1) stays_put
 
 -- ---- after the front
 
@@ -184,12 +184,12 @@ answered {given} {first} {y} {workers} b c fresh =
 -- what all lines say, whatever still comes
 said_all : {given : Option ℕ} {first i j : InputSeen} {o o' : OutputSeen} {x y : HearingValue} {workers : ℕ}
     {start talk : PlayerValue} (b : Begins given first i x workers) (c : Conversing workers i j o o' x y start talk)
-    (text : List ℕ) → MayCome y.input text → said given (lines ((b.taken.more ++ c.taken.more) ++ text))
+    (text : List ℕ) → MayCome y.input text → session_script given (lines ((b.taken.more ++ c.taken.more) ++ text))
     ≡ going_on workers c.g (commands_from workers y.number 0 (lines (y.input.left ++ text)))
 said_all {given} {x} {y} {workers} b c text may =
     let behind : MayCome x.input (c.taken.more ++ text) = c.taken.may text may in
-    ap (λ xs. said given (lines xs)) (append_assoc b.taken.more c.taken.more text)
-    ∙ ap (said given) (b.taken.cut (c.taken.more ++ text) behind)
+    ap (λ xs. session_script given (lines xs)) (append_assoc b.taken.more c.taken.more text)
+    ∙ ap (session_script given) (b.taken.cut (c.taken.more ++ text) behind)
     ∙ b.going (lines (x.input.left ++ (c.taken.more ++ text))) (follows_all x.input (c.taken.more ++ text) behind)
     ∙ ap (λ xs. script_of workers (commands_from workers x.number 0 (lines xs)))
     (sym (append_assoc x.input.left c.taken.more text))
@@ -337,7 +337,7 @@ stops_unopened o b kind.Memory h = (stops_begun {o = o} b, refl)
 stops_unopened o b _ h = absurd h
 
 -- the number of workers is given
-abbrev pub begins_so : {i : InputSeen} {workers : ℕ} → Begins (Some workers) i i unheard workers
+abbrev pub begins_so : {i : InputSeen} {workers : ℕ} → Begins (Some workers) i i unheard_session workers
 begins_so = record {
   front = [];
   taken = taken_none;

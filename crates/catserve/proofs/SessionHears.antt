@@ -2,7 +2,7 @@
 use Rattle.catserve.proofs.Common.{◌≡◌, ◌∙◌, refl, sym, ap, subst, ℕ, ◌+◌, ◌<◌, List, [], ◌∷◌, ◌++◌, length, take, drop}
 use Rattle.catserve.proofs.Common.{arith, inl, inr, append_assoc, Option, Some, None, Result, Ok, Err, concat}
 use Rattle.catserve.proofs.Common.{append-nil, InputSeen, most_reads, lines, without_end, MayCome, EndsLine}
-use Rattle.catserve.proofs.Common.{consumes_both, rises_both, rises_later, Line, line_of, command_with, listed}
+use Rattle.catserve.proofs.Common.{consumes_both, rises_both, rises_later, Line, line_of, command_with, command_list}
 use Rattle.catserve.proofs.Common.{text_lines, commands_from, ScriptKind, SessionFault, FailsToRead, most_lines}
 use Rattle.catserve.proofs.Common.{HearingValue, CountsOn, HasTaken, Hears, Stays, HearsNone, HearsNoText, HearsText}
 use Rattle.catserve.proofs.Common.{HearsOne, IsUnsaid, line_of_kind, size_behind, commands_of}
@@ -103,8 +103,8 @@ hears_none i workers x _ ends h = absurd h
 abbrev pub hears_said : {i j : InputSeen} {workers : ℕ} {x y : HearingValue} {end : ℕ} (line : Line) {bytes : List ℕ}
     → x.number < most_lines → line_of workers (without_end (take end x.input.left)) ≡ Some line
     → HearsText i j x y end (text_lines line) bytes
-    → Hears i j workers x (record y { size = size_behind (listed (command_with line bytes)) y.size })
-    (listed (command_with line bytes))
+    → Hears i j workers x (record y { size = size_behind (command_list (command_with line bytes)) y.size })
+    (command_list (command_with line bytes))
 hears_said {x} {end} line {bytes} few is h =
     let raw : List (List ℕ) = take end x.input.left ∷ h.texts in
     record {
@@ -113,7 +113,7 @@ hears_said {x} {end} line {bytes} few is h =
       said = rw h.bytes_are (says_text (take end x.input.left) line h.texts is h.counted h.utf8);
       few = few;
       number = omega (arith, h.number, h.counted);
-      size = ap (λ n. size_behind (listed (command_with line bytes)) n) h.size;
+      size = ap (λ n. size_behind (command_list (command_with line bytes)) n) h.size;
     }
 
 pub none_text : (i j : InputSeen) (workers : ℕ) (x y : HearingValue) {end : ℕ} (said : Line) (kind : ScriptKind)

@@ -4,12 +4,12 @@ use Rattle.catserve.proofs.Common.{arith, inl, inr, append_assoc, Option, Some, 
 use Rattle.catserve.proofs.Common.{append_cancel_left, append-nil, nil_from_length, take-append-drop, take-append-le}
 use Rattle.catserve.proofs.Common.{AnswersFirst, Event, Gave, Grows, Log, came, EndsLine, EndsLines, Incoming, lines}
 use Rattle.catserve.proofs.Common.{without_end, ReadsWhile, StillCounts, StillWaits, Waits, Line, line_of, command_with}
-use Rattle.catserve.proofs.Common.{listed, text_lines, Command, Go, SessionFault, InputSeen, OutputSeen, AnswersInTime}
-use Rattle.catserve.proofs.Common.{IsAnswered, most_lines, Begins, HasGot, HasPassed, Hears, HearsEnd, HearingValue}
-use Rattle.catserve.proofs.Common.{HearsText, Stays, size_behind, unheard, Conversing, IsFresh, PlayerValue}
-use Rattle.catserve.proofs.Common.{ContinuesInTime, GivesSome, HearsInTime, InTime, ReadsOpen, RespondsInTime}
-use Rattle.catserve.proofs.Common.{StillOpen, TalksInTime}
-use Rattle.devices.specs.Logs.{given as gave}
+use Rattle.catserve.proofs.Common.{command_list, text_lines, Command, Go, SessionFault, InputSeen, OutputSeen}
+use Rattle.catserve.proofs.Common.{AnswersInTime, IsAnswered, most_lines, Begins, HasGot, HasPassed, Hears, HearsEnd}
+use Rattle.catserve.proofs.Common.{HearingValue, HearsText, Stays, size_behind, unheard_session, Conversing, IsFresh}
+use Rattle.catserve.proofs.Common.{PlayerValue, ContinuesInTime, GivesSome, HearsInTime, InTime, ReadsOpen}
+use Rattle.catserve.proofs.Common.{RespondsInTime, StillOpen, TalksInTime}
+use Rattle.devices.specs.Logs.{given_bytes as gave}
 use Rattle.devices.proofs.Logging.{answers_none, answers_so, answers_then, answers_write, came_then, given_then}
 use Rattle.devices.proofs.Logging.{grows_none, grows_then}
 use Rattle.devices.proofs.Arriving.{both}
@@ -115,7 +115,8 @@ pub said_heard : {i j : InputSeen} {a b : Log} {workers : ℕ} {x y : HearingVal
     {bytes : List ℕ} → x.number < most_lines → EndsLine x.input 0 end
     → line_of workers (without_end (take end x.input.left)) ≡ Some line → HearsText i j x y end (text_lines line) bytes
     → ReadsText a b x.input y.input end (text_lines line) bytes → HearsSo i j a b workers x
-    (record y { size = size_behind (listed (command_with line bytes)) y.size }) (listed (command_with line bytes))
+    (record y { size = size_behind (command_list (command_with line bytes)) y.size })
+    (command_list (command_with line bytes))
 said_heard line few ends is h reads = (
   hears_said line few is h,
   open_known (open_text line ends is (text_whole reads)) (text_came h reads),
@@ -243,7 +244,7 @@ moved front mid back had same = rw same (rw append_assoc at had)
 pub talks_more : {workers : ℕ} {i j k : InputSeen} {o o' o'' : OutputSeen} {x y z : HearingValue}
     {start old new : PlayerValue} {a b c d : Log} (command : Option Command)
     → IsFresh workers start → TalksInTime workers i j o o' x y start old a b
-    → (h : Hears j k workers y z (listed command)) × ReadsOpen b c workers y.input h.taken.more
+    → (h : Hears j k workers y z (command_list command)) × ReadsOpen b c workers y.input h.taken.more
     → RespondsInTime command old new o' o'' c d → TalksInTime workers i k o o'' x z start new a d
 talks_more {workers} {i} {j} {k} {o} {o'} {o''} {x} {y} {z} {start} {old} {new} {a} {b} {c} {d} command fresh talks
     heard_it
@@ -256,7 +257,7 @@ talks_more {workers} {i} {j} {k} {o} {o'} {o''} {x} {y} {z} {start} {old} {new} 
         (talks_here begun talks.0 fresh) reads
 
     by_command : (command : Option Command)
-        → (h : Hears j k workers y z (listed command)) × ReadsOpen b c workers y.input h.taken.more
+        → (h : Hears j k workers y z (command_list command)) × ReadsOpen b c workers y.input h.taken.more
         → RespondsInTime command old new o' o'' c d → TalksInTime workers i k o o'' x z start new a d
     by_command (Some Go) (h, reads) (answers, logged) = (
       converses_more (Some Go) talks.0 h answers,
@@ -282,15 +283,16 @@ abbrev no_output : OutputSeen
 no_output = record { bytes = None; failures = 0 }
 
 -- nothing is due before the first command
-passed_here : {i j : InputSeen} {y : HearingValue} {front : List (List ℕ)} (passed : HasPassed i j unheard y front)
+passed_here : {i j : InputSeen} {y : HearingValue} {front : List (List ℕ)}
+    (passed : HasPassed i j unheard_session y front)
     (t g : List ℕ) → StillOpen 2 y.input t g → IsAnswered None (passed.taken.more ++ t) ([] ++ g)
 passed_here passed = is_answered (front_answered {o = no_output} passed)
 
 -- lines before the first command that say nothing were passed in time
 abbrev pub PassesInTime : InputSeen → InputSeen → HearingValue → List (List ℕ) → Log → Log → Type 0
-PassesInTime i j y front a b = (passed : HasPassed i j unheard y front) × InTime None a b passed.taken.more []
+PassesInTime i j y front a b = (passed : HasPassed i j unheard_session y front) × InTime None a b passed.taken.more []
 
-pub passes_none : {i : InputSeen} {log : Log} → PassesInTime i i unheard [] log log
+pub passes_none : {i : InputSeen} {log : Log} → PassesInTime i i unheard_session [] log log
 passes_none = (passed_none, begins_timely)
 
 -- one line more was waited for

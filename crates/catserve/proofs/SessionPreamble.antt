@@ -4,7 +4,7 @@ use Rattle.catserve.proofs.Common.{take, drop, arith, inl, inr, append_assoc, le
 use Rattle.catserve.proofs.Common.{append-nil, length-take-le, concat-append, IsUtf8-append, IsUtf8-nil, lines}
 use Rattle.catserve.proofs.Common.{without_end, Incoming, EndsLine, is_blank, workers_line, commands_from, script_from}
 use Rattle.catserve.proofs.Common.{script_of, ScriptKind, InputSeen, HearingValue, HasTaken, Stays, HasPassed, Begins}
-use Rattle.catserve.proofs.Common.{Follows, BeginAlike, unheard, HearsNothing, FailsInPreamble}
+use Rattle.catserve.proofs.Common.{Follows, BeginAlike, unheard_session, HearsNothing, FailsInPreamble}
 use Rattle.script_text.specs.LineFields.{fields}
 use Rattle.script_text.specs.declared.fault.ScriptKind.TheVariants as kind
 use Rattle.catserve.proofs.LinesTaken.{no_line, taken_none, taken_then, got_taken, line_cut, line_whole}
@@ -76,7 +76,7 @@ passed_more {x} {z} {front} {end} passed stays ends utf8 blank =
 
 -- the line that gives the number of workers
 abbrev pub begins_given : {i j k : InputSeen} {y z : HearingValue} {front : List (List ℕ)} {end workers : ℕ}
-    → HasPassed i j unheard y front → Stays j k y z [] → EndsLine z.input 0 end → IsUtf8 (take end z.input.left)
+    → HasPassed i j unheard_session y front → Stays j k y z [] → EndsLine z.input 0 end → IsUtf8 (take end z.input.left)
     → is_blank (without_end (take end z.input.left)) ≡ false
     → workers_line (fields (without_end (take end z.input.left))) ≡ Some workers
     → Begins None i k (behind_line z end) workers
@@ -93,7 +93,8 @@ begins_given {z} {front} {end} {workers} passed stays ends utf8 other is =
     }
 
 -- the first command follows, or none does, so there are two workers
-abbrev begins_two : {i j k : InputSeen} {y z : HearingValue} {front : List (List ℕ)} → HasPassed i j unheard y front
+abbrev begins_two : {i j k : InputSeen} {y z : HearingValue} {front : List (List ℕ)}
+    → HasPassed i j unheard_session y front
     → Stays j k y z [] → ((behind : List (List ℕ)) → Follows z.input behind
     → script_from z.number behind ≡ script_of 2 (commands_from 2 z.number 0 behind)) → Begins None i k z 2
 begins_two {front} passed stays first = record {
@@ -124,7 +125,7 @@ begins_first number {input} {end} behind ends other none (inr (text, may, alike)
     (subst (BeginAlike behind) (line_cut ends text may) alike)
 
 abbrev pub begins_other : {i j k : InputSeen} {y z : HearingValue} {front : List (List ℕ)} {end : ℕ}
-    → HasPassed i j unheard y front → Stays j k y z [] → EndsLine z.input 0 end
+    → HasPassed i j unheard_session y front → Stays j k y z [] → EndsLine z.input 0 end
     → is_blank (without_end (take end z.input.left)) ≡ false
     → workers_line (fields (without_end (take end z.input.left))) ≡ None → Begins None i k z 2
 begins_other {z} passed stays ends other none = begins_two passed stays
@@ -138,20 +139,22 @@ ended_first number input [] none ended (inr follows) = refl
 ended_first number input (l ∷ ls) none ended (inr (text, may, alike)) = absurd (rw (none, may ended) at alike)
 
 abbrev pub begins_ended : {i j k : InputSeen} {y z : HearingValue} {front : List (List ℕ)}
-    → HasPassed i j unheard y front → Stays j k y z [] → z.input.left ≡ [] → z.input.ended ≡ true → Begins None i k z 2
+    → HasPassed i j unheard_session y front → Stays j k y z [] → z.input.left ≡ [] → z.input.ended ≡ true
+    → Begins None i k z 2
 begins_ended {z} passed stays none ended = begins_two passed stays
     (λ behind follows. ended_first z.number z.input behind none ended follows)
 
 -- ---- why the preamble wasn't heard
 
 pub preamble_fails : {i j k : InputSeen} {y : HearingValue} (z : HearingValue) {front : List (List ℕ)}
-    {kind : ScriptKind} {line : ℕ} → HasPassed i j unheard y front → HearsNothing j k y z kind line
+    {kind : ScriptKind} {line : ℕ} → HasPassed i j unheard_session y front → HearsNothing j k y z kind line
     → FailsInPreamble i k kind line
 preamble_fails {j} {k} {y} z {front} {kind} {line} passed h = record
     { mid = j; y = y; z = z; front = front; passed = passed; none = no_line (λ line. ⊥) j k y z kind line h }
 
 pub preamble_undecodable : {i j k : InputSeen} {y z : HearingValue} {front : List (List ℕ)} {end : ℕ}
-    → HasPassed i j unheard y front → Stays j k y z [] → EndsLine z.input 0 end → ¬ IsUtf8 (take end z.input.left)
+    → HasPassed i j unheard_session y front → Stays j k y z [] → EndsLine z.input 0 end
+    → ¬ IsUtf8 (take end z.input.left)
     → FailsInPreamble i k kind.NotUtf8 z.number
 preamble_undecodable {j} {y} {z} {front} {end} passed stays ends undecodable = record {
   mid = j;

@@ -2,8 +2,8 @@
 use Rattle.catserve.proofs.Common.{◌≡◌, ◌∙◌, refl, sym, ap, ℕ, ◌+◌, ◌<◌, ◌≤◌, fold, List, [], ◌∷◌, ◌++◌, length, arith}
 use Rattle.catserve.proofs.Common.{append_assoc, length-append, Option, Some, None, concat, filter_map, Appends}
 use Rattle.catserve.proofs.Common.{Appends-nil, Appends-trans, append-nil, concat-append, QueryValue, SeenValue}
-use Rattle.catserve.proofs.Common.{version_of, StoreValue, HasRoom, listed, Command, Load, Ask, Go, RoundValue}
-use Rattle.catserve.proofs.Common.{Gathered, empty_round, nothing, gathered, loads_so_far, few_more, readers_of}
+use Rattle.catserve.proofs.Common.{version_of, StoreValue, HasRoom, command_list, Command, Load, Ask, Go, RoundValue}
+use Rattle.catserve.proofs.Common.{Gathered, empty_round, nothing, gathered_with, loads_so_far, few_more, readers_of}
 use Rattle.catserve.proofs.Common.{accepted_load, Finishes, HasLoaded, HasPlayed, PlaysOne, InputSeen, OutputSeen}
 use Rattle.catserve.proofs.Common.{HaveEnded, HearingValue, Hears, size_behind, PlayerValue, AnswersRound, MakesLoad}
 use Rattle.catserve.proofs.Common.{GivesQuestion, Responds, IsFresh, HasTalked, HasOpen, Conversing}
@@ -67,7 +67,7 @@ talked_none {start} fresh = record {
 
 pub talked_load : {workers : ℕ} {g : Gathered} {start : StoreValue} {old new : PlayerValue} {written : List ℕ}
     {load : JobValue} → HasTalked workers g start old written → MakesLoad load old new
-    → HasTalked workers (gathered g (Load load)) start new written
+    → HasTalked workers (gathered_with g (Load load)) start new written
 talked_load {g} talked makes = record {
   before = talked.before;
   played = talked.played;
@@ -84,7 +84,7 @@ talked_load {g} talked makes = record {
 
 pub talked_ask : {workers : ℕ} {g : Gathered} {start : StoreValue} {old new : PlayerValue} {written : List ℕ}
     {worker : ℕ} {query : QueryValue} → HasTalked workers g start old written → GivesQuestion worker query old new
-    → HasTalked workers (gathered g (Ask worker query)) start new written
+    → HasTalked workers (gathered_with g (Ask worker query)) start new written
 talked_ask {g} {old} {new} {worker} {query} talked gives =
     let readers = readers-given old.desks new.desks worker query gives.gives in
     record {
@@ -101,7 +101,7 @@ talked_ask {g} {old} {new} {worker} {query} talked gives =
 
 pub talked_go : {workers : ℕ} {g : Gathered} {start : StoreValue} {old new : PlayerValue} {o o' : OutputSeen}
     {written : List ℕ} (talked : HasTalked workers g start old written) (a : AnswersRound old new o o')
-    → HasTalked workers (gathered g Go) start new (written ++ a.lines)
+    → HasTalked workers (gathered_with g Go) start new (written ++ a.lines)
 talked_go {new} talked a = record {
   before = new.store;
   played = answers_one talked a;
@@ -116,7 +116,7 @@ talked_go {new} talked a = record {
 pub talked_more : {workers : ℕ} {g : Gathered} {start : StoreValue} {old : PlayerValue} (new : PlayerValue)
     (o o' : OutputSeen) {written : List ℕ} (first : Option (List ℕ)) (command : Option Command)
     → HasTalked workers g start old written → Appends first o.bytes written → Responds command old new o o'
-    → (more : List ℕ) × HasTalked workers (fold gathered g (listed command)) start new more
+    → (more : List ℕ) × HasTalked workers (fold gathered_with g (command_list command)) start new more
     × Appends first o'.bytes more
 talked_more new o o' {written} first None talked output (same, kept) = (written, rw (← same) at talked, rw kept output)
 talked_more new o o' {written} first (Some (Load load)) talked output (makes, kept) =
@@ -212,14 +212,14 @@ open_none {front} {workers} none ended = record {
 -- something that doesn't end the round
 abbrev pub goes_on : {workers : ℕ} {i j k : InputSeen} {o o' o'' : OutputSeen} {x y z : HearingValue}
     {start old new : PlayerValue} {commands : List Command} (c : Conversing workers i j o o' x y start old)
-    (h : Hears j k workers y z commands) (few : loads_so_far (fold gathered c.g commands) ≤ loads_so_far c.g + 1)
+    (h : Hears j k workers y z commands) (few : loads_so_far (fold gathered_with c.g commands) ≤ loads_so_far c.g + 1)
     → size_behind commands (y.size + length (concat h.raw)) ≡ y.size + length (concat h.raw)
-    → (fold gathered c.g commands).ended ≡ c.g.ended
-    → HasTalked workers (fold gathered c.g commands) start.store new c.written → o'' ≡ o'
+    → (fold gathered_with c.g commands).ended ≡ c.g.ended
+    → HasTalked workers (fold gathered_with c.g commands) start.store new c.written → o'' ≡ o'
     → Conversing workers i k o o'' x z start new
 goes_on {commands} c h few size same talked kept = record {
   lines = c.lines ++ h.raw;
-  g = fold gathered c.g commands;
+  g = fold gathered_with c.g commands;
   written = c.written;
   taken = taken_then c.taken h.taken;
   heard = heard_more c.heard h.said h.number few;
@@ -233,7 +233,7 @@ goes_on {commands} c h few size same talked kept = record {
 -- what a line says was done
 abbrev pub converses_more : {workers : ℕ} {i j k : InputSeen} {o o' o'' : OutputSeen}
     {x y z : HearingValue} {start old new : PlayerValue} (command : Option Command)
-    → Conversing workers i j o o' x y start old → Hears j k workers y z (listed command)
+    → Conversing workers i j o o' x y start old → Hears j k workers y z (command_list command)
     → Responds command old new o' o'' → Conversing workers i k o o'' x z start new
 converses_more None c h (same, kept) = goes_on c h (few_more c.g None) refl refl (rw (← same) at c.talked) kept
 converses_more (Some (Load load)) c h (makes, kept) =
@@ -241,7 +241,7 @@ converses_more (Some (Load load)) c h (makes, kept) =
 converses_more (Some (Ask worker query)) c h (gives, kept) =
     goes_on c h (few_more c.g (Some (Ask worker query))) refl refl (talked_ask c.talked gives) kept
 converses_more {o} {o'} {o''} {z} (Some Go) c h answers =
-    let g = gathered c.g Go in
+    let g = gathered_with c.g Go in
     let taken = taken_then c.taken h.taken in
     let heard_so = heard_more c.heard h.said h.number (few_more c.g (Some Go)) in
     record {

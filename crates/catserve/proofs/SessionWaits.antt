@@ -1,8 +1,9 @@
 -- When a session waits.
 use Rattle.catserve.proofs.Common.{◌≡◌, ◌∙◌, refl, ap, ℕ, false, List, [], ◌∷◌, ◌++◌, length, arith, take, inl, inr}
 use Rattle.catserve.proofs.Common.{append_assoc, length-append, Some, cases_Bool, append-nil, take-append-le}
-use Rattle.catserve.proofs.Common.{AnswersFirst, Log, came, given, without_end, EndsLine, Incoming, MayCome, ReadsWhile}
-use Rattle.catserve.proofs.Common.{StillCounts, StillWaits, Waits, Line, Loads, line_of, text_lines, coming, StillOpen}
+use Rattle.catserve.proofs.Common.{AnswersFirst, Log, came, given_bytes, without_end, EndsLine, Incoming, MayCome}
+use Rattle.catserve.proofs.Common.{ReadsWhile, StillCounts, StillWaits, Waits, Line, Loads, line_of, text_lines}
+use Rattle.catserve.proofs.Common.{rest_to_come, StillOpen}
 use Rattle.devices.proofs.Logging.{answers_none, answers_so, answers_then, given_then, grows_none, grows_then}
 use Rattle.devices.proofs.Arriving.{both}
 use Rattle.devices.proofs.LineCounting.{ends_grown, ends_more, ends_none}
@@ -39,7 +40,7 @@ text_open {workers} {x} {end} (Loads domain locale options count) ends says c g 
   going = still.going;
   is_open = inr (record {
     end = end;
-    first = ends_grown 1 x (coming (x.left ++ c)) 0 end c still.going refl
+    first = ends_grown 1 x (rest_to_come (x.left ++ c)) 0 end c still.going refl
         (ends_more 0 x 0 0 end (ends_none x 0 (omega arith)) ends);
     domain = domain;
     locale = locale;
@@ -74,14 +75,15 @@ pub open_each : {workers : ℕ} {a b c : Log} {x y : Incoming} (more : List ℕ)
     → (reads : ReadsWhile b c (StillOpen workers y)) → AnswersFirst (StillOpen workers x) (waits.events ++ reads.events)
 open_each {workers} {x} {y} more may waits reads = answers_then (StillOpen workers x) waits.events reads.events
     (answers_so (StillWaits x 0) (StillOpen workers x) waits.events (line_open) waits.each)
-    (answers_so (StillOpen workers y) (λ t g. StillOpen workers x (came waits.events ++ t) (given waits.events ++ g))
+    (answers_so (StillOpen workers y) (λ t g. StillOpen workers x (came waits.events ++ t)
+    (given_bytes waits.events ++ g))
     reads.events still reads.each)
   where
     here : x.left ++ came waits.events ≡ y.left
     here = waits.placed ∙ append-nil y.left
 
     still : (t g : List ℕ) → StillOpen workers y t g
-        → StillOpen workers x (came waits.events ++ t) (given waits.events ++ g)
+        → StillOpen workers x (came waits.events ++ t) (given_bytes waits.events ++ g)
     still t g was = record {
       going = going_before x more (λ text. may text (λ ended. both y.ended ended was.going));
       is_open = rw (← append_assoc x.left (came waits.events) t, here) was.is_open;

@@ -3,7 +3,7 @@ use Rattle.catserve.proofs.Common.{◌≡◌, ℕ, zero, suc, ◌+◌, ◌<◌, 
 use Rattle.catserve.proofs.Common.{None, Result, Ok, Err, refl, arith, inl, inr, nat_lt, AllByRecursion, AllZip, filter}
 use Rattle.catserve.proofs.Common.{filter_map, flat_map, last_or, cases_Bool, cases_lt, ltb-true, Entry, key_bytes}
 use Rattle.catserve.proofs.Common.{LoadValue, map_of, map_or_empty, is_for, AskValue, Plain, Context, Number}
-use Rattle.catserve.proofs.Common.{ContextNumber, QueryValue, HasValue, IsAnswer, answering, first_with, has_key}
+use Rattle.catserve.proofs.Common.{ContextNumber, QueryValue, HasValue, IsAnswer, answering_map, first_with, has_key}
 use Rattle.catserve.proofs.Common.{key_of, QuestionValue, RoundValue, ScriptValue, queries_for, script, answer_line}
 use Rattle.catserve.proofs.Common.{version_line, IsReadable, most_script, Accepted, Refused, RefusedMo, Unnamed}
 use Rattle.catserve.proofs.Common.{IsOutcome, outcome_line, accepted_load, Answers, AnswersInTurn, Plays, PlaysAll}
@@ -15,7 +15,7 @@ use Rattle.catalogue.specs.Value.{IsFirstForm, IsCounted, HasRuleIn, form_or_fir
 use Rattle.catalogue.proofs.Members.{from_find}
 use Rattle.entry_search.proofs.Searching.{some_at}
 use Rattle.catalogue.proofs.SomeMeaning.{IsFormed}
-use Rattle.live_set.specs.LanguageList.{named}
+use Rattle.live_set.specs.LanguageList.{named_locales}
 use Rattle.script_text.specs.ScriptLoads.{JobValue}
 use Rattle.catserve.specs.Rounds.{Outcome}
 use Rattle.catserve.proofs.Sources.{brings_some, brings_formed}
@@ -94,8 +94,8 @@ value_some m (ContextNumber context id plural n) formed none = counted_some m (k
 answers_some : (loads : List LoadValue) (worker : ℕ) (queries : List QueryValue) → AreFormed loads
     → ((output : List ℕ) → Answers loads worker queries output → ⊥) → ⊥
 answers_some loads worker queries formed none =
-    zip_some (IsAnswer loads) (λ q. value_some (answering (map_of loads) q) q.ask
-    (first_formed (key_of q.ask) (map_of loads q.domain) (named q.languages)
+    zip_some (IsAnswer loads) (λ q. value_some (answering_map (map_of loads) q) q.ask
+    (first_formed (key_of q.ask) (map_of loads q.domain) (named_locales q.languages)
     (λ locale. map_formed loads q.domain locale formed))) queries
     (λ texts each. none (flat_map (answer_line worker (length loads)) texts) (texts, each, refl))
 

@@ -10,11 +10,10 @@ use Rattle.devices.specs.Incoming.{Incoming, MayCome, EndsLine, LacksLines}
 use Rattle.devices.specs.declared.incoming.LineInputFault.{LineInputFault}
 use Rattle.devices.specs.declared.incoming.LineInputFault.TheVariants as line_fault
 use Rattle.script_text.specs.Commands.{is_blank, line_of, workers_line}
-use Rattle.script_text.specs.CommandValues.{command_with, listed}
+use Rattle.script_text.specs.CommandValues.{command_with, command_list}
 use Rattle.script_text.specs.LineValues.{line_value}
 use Rattle.script_text.specs.LineFields.{fields}
-use Rattle.script_text.specs.Script.{Command, Go, Says, and_then, commands_from, script_from}
-use Rattle.script_text.specs.Script.{script_of}
+use Rattle.script_text.specs.Script.{Command, Go, Says, and_then, commands_from, script_from, script_of}
 use Rattle.script_text.specs.Texts.{most_script}
 use Rattle.script_text.specs.declared.fault.ScriptKind.{ScriptKind}
 use Rattle.script_text.specs.declared.fault.ScriptKind.TheVariants.{TooLarge, NotUtf8, BadLine, ReadFault, Memory}
@@ -23,7 +22,7 @@ use Rattle.catserve.specs.declared.said.PreambleLine.{PreambleLine}
 use Rattle.catserve.specs.declared.said.PreambleLine.TheVariants as preamble_line
 use Rattle.catserve.specs.declared.hearing.Heard.{Heard}
 use Rattle.catserve.specs.Run.{FailsToRead}
-use Rattle.catserve.specs.Session.{most_lines, round_end, said as meant}
+use Rattle.catserve.specs.Session.{most_lines, round_end, session_script as meant}
 
 -- the command of what was heard
 abbrev pub command_of : Heard → Option Command
@@ -31,7 +30,7 @@ command_of heard = command_with (line_value heard.line) heard.text.items
 
 -- as a list
 abbrev pub commands_of : Heard → List Command
-commands_of heard = listed (command_of heard)
+commands_of heard = command_list (command_of heard)
 
 -- what has come of the input and isn't taken, the number of the next line, and how many bytes the open round has so far
 pub record HearingValue : Type 0 where
@@ -205,8 +204,8 @@ HearsOne i i' workers x y (Err fault) = HearsNone i i' workers x y fault.kind fa
 -- ---- the preamble of a session
 
 -- a session whose input wasn't read
-abbrev pub unheard : HearingValue
-unheard = record { input = silence; number = 1; size = 0 }
+abbrev pub unheard_session : HearingValue
+unheard_session = record { input = silence; number = 1; size = 0 }
 
 -- lines before the first command that say nothing
 pub record HasPassed (i i' : InputSeen) (x y : HearingValue) (front : List (List ℕ)) : Type 0 where
@@ -222,7 +221,7 @@ pub record FailsInPreamble (i i' : InputSeen) (kind : ScriptKind) (line : ℕ) :
   pub y : HearingValue
   pub z : HearingValue
   pub front : List (List ℕ)
-  pub passed : HasPassed i mid unheard y front
+  pub passed : HasPassed i mid unheard_session y front
   pub none : HearsNoLine (λ line. ⊥) mid i' y z kind line
 
 -- two lists of lines have equal first lines, or both are empty

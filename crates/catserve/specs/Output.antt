@@ -17,8 +17,8 @@ abbrev pub escape : ℕ → List ℕ
 escape b = if b == 10 then 92 ∷ 110 ∷ [] else if b == 9 then 92 ∷ 116 ∷ [] else if b == 92 then 92 ∷ 92 ∷ [] else b ∷ []
 
 -- a text with its escapes
-abbrev pub escaped : List ℕ → List ℕ
-escaped text = flat_map escape text
+abbrev pub escaped_text : List ℕ → List ℕ
+escaped_text text = flat_map escape text
 
 -- a load of a PO text that was accepted: how many entries are translated, fuzzy and untranslated
 abbrev pub accepted_line : Stats → List ℕ
@@ -47,4 +47,4 @@ version_line version = line (codes "version" ∷ decimal version ∷ [])
 
 -- what a worker answers, at a version
 abbrev pub answer_line : ℕ → ℕ → List ℕ → List ℕ
-answer_line worker version text = line (decimal worker ∷ decimal version ∷ escaped text ∷ [])
+answer_line worker version text = line (decimal worker ∷ decimal version ∷ escaped_text text ∷ [])

@@ -6,7 +6,7 @@ use Rattle.live_set.specs.Loads.{LoadValue}
 use Rattle.script_text.specs.declared.fault.ScriptKind.{ScriptKind}
 use Rattle.script_text.specs.declared.fault.ScriptKind.TheVariants.{ReadFault, WriteFault, NoPlace, Closed, Join}
 use Rattle.script_text.specs.declared.fault.ScriptKind.TheVariants.{Memory}
-use Rattle.live_versions.specs.Batches.{joined, version_of}
+use Rattle.live_versions.specs.Batches.{joined_loads, version_of}
 use Rattle.live_versions.specs.Seen.{SeenValue}
 use Rattle.live_versions.specs.Store.{StoreValue}
 use Rattle.live_loads.specs.declared.fault.StoreFault.{StoreFault}
@@ -17,13 +17,12 @@ use Rattle.desks.specs.declared.job.Accepted as job
 use Rattle.desks.specs.declared.job.Accepted.TheVariants as accepted
 use Rattle.desks.specs.declared.desk.Desk.{Desk}
 use Rattle.catserve.specs.Asking.{readers_of, AreAsked, is_asked}
-use Rattle.script_text.specs.Script.{load_count}
+use Rattle.script_text.specs.Script.{load_count, Command, RoundValue, ScriptValue, rounds_of}
 use Rattle.desks.specs.Desks.{EndsAhead}
 use Rattle.desks.specs.Jobs as jobs
 use Rattle.desks.specs.declared.desk.ServeFault.{ServeFault}
 use Rattle.desks.specs.declared.desk.ServeFault.TheVariants as fault
 use Rattle.script_text.specs.ScriptLoads.{JobValue, SourceValue, Po, Mo}
-use Rattle.script_text.specs.Script.{Command, RoundValue, ScriptValue, rounds_of}
 use Rattle.catserve.specs.Output.{accepted_line, accepted_mo_line, refused_line, refused_mo_line, unnamed_line}
 use Rattle.catserve.specs.Rounds.{Outcome, IsOutcome, outcome_line, accepted_load, Plays, PlaysAll}
 use Rattle.script_text.specs.Texts.{IsRefused, IsScript}
@@ -80,7 +79,7 @@ pub record HasLoaded (loads : List JobValue) (was now : StoreValue) (before afte
 -- a round was played: what is published, and its lines
 pub record PlaysOne (workers : ℕ) (round : RoundValue) (was now : StoreValue) (before after : List ℕ) : Type 0 where
   pub output : List ℕ
-  pub plays : Plays workers (joined was.seen.batches) round (joined now.seen.batches) output
+  pub plays : Plays workers (joined_loads was.seen.batches) round (joined_loads now.seen.batches) output
   pub none_pending : now.pending ≡ []
   pub most : now.most ≡ was.most
   pub written : after ≡ before ++ output
@@ -94,8 +93,8 @@ Finishes workers loaded asked loads_are now after = (round : RoundValue) (was : 
 
 -- these rounds were played after a store's loads: what follows them in a script goes on from here
 pub record HasPlayed (workers : ℕ) (rounds : List RoundValue) (was now : StoreValue) (output : List ℕ) : Type 0 where
-  pub going : (rest : List RoundValue) (tail : List ℕ) → PlaysAll workers (joined now.seen.batches) rest tail
-      → PlaysAll workers (joined was.seen.batches) (rounds ++ rest) (output ++ tail)
+  pub going : (rest : List RoundValue) (tail : List ℕ) → PlaysAll workers (joined_loads now.seen.batches) rest tail
+      → PlaysAll workers (joined_loads was.seen.batches) (rounds ++ rest) (output ++ tail)
   pub none_pending : now.pending ≡ []
   pub few : version_of now.seen.batches ≤ version_of was.seen.batches + load_count rounds
   pub most : now.most ≡ was.most

@@ -22,9 +22,9 @@ use Rattle.catserve.specs.Run.{FailsToRead}
 -- ---- what the lines mean
 
 -- the lines of a session say what those of a script do; the number of workers may be given apart from them
-abbrev pub said : Option ℕ → List (List ℕ) → Result ScriptValue ℕ
-said None lines = script_from 1 lines
-said (Some workers) lines = script_of workers (commands_from workers 1 0 lines)
+abbrev pub session_script : Option ℕ → List (List ℕ) → Result ScriptValue ℕ
+session_script None lines = script_from 1 lines
+session_script (Some workers) lines = script_of workers (commands_from workers 1 0 lines)
 
 -- the line that ends a round
 abbrev pub round_end : List ℕ
@@ -33,7 +33,8 @@ round_end = codes "go" ++ 10 ∷ []
 -- for this number of workers these rounds have ended in the lines: with one more `go` there is one round more
 pub record HaveEnded (given : Option ℕ) (front : List (List ℕ)) (workers : ℕ) (rounds : List RoundValue) : Type 0 where
   pub last : RoundValue
-  pub says : said given (front ++ round_end ∷ []) ≡ Ok (record { workers = workers; rounds = rounds ++ last ∷ [] })
+  pub says : session_script given (front ++ round_end ∷ [])
+      ≡ Ok (record { workers = workers; rounds = rounds ++ last ∷ [] })
 
 -- ---- what was read, and what was written
 
@@ -76,7 +77,7 @@ pub record AnswersAll (given : Option ℕ) (i i' : InputSeen) (o o' : OutputSeen
   pub at_end : IsAtEnd i'.left
   pub utf8 : IsUtf8 text
   pub value : ScriptValue
-  pub says : said given (lines text) ≡ Ok value
+  pub says : session_script given (lines text) ≡ Ok value
   pub output : List ℕ
   pub plays : PlaysAll value.workers [] value.rounds output
   pub written : Appends o.bytes o'.bytes output
@@ -85,7 +86,7 @@ pub record AnswersAll (given : Option ℕ) (i i' : InputSeen) (o o' : OutputSeen
 pub record MeetsBadLine (given : Option ℕ) (i i' : InputSeen) (o o' : OutputSeen) (line : ℕ) : Type 0 where
   pub stop : Stops given i i' o o' []
   pub line_is : IsNext stop.front line
-  pub bad : (more : List ℕ) → MayFollow stop.ended more → said given (lines (stop.text ++ more)) ≡ Err line
+  pub bad : (more : List ℕ) → MayFollow stop.ended more → session_script given (lines (stop.text ++ more)) ≡ Err line
 
 -- the next line, with the lines that are its text, isn't UTF-8
 pub record MeetsUndecodable (given : Option ℕ) (i i' : InputSeen) (o o' : OutputSeen) (line : ℕ) : Type 0 where
@@ -161,13 +162,13 @@ Converses given i i' o o' (Err fault) = EndsFor given i i' o o' fault.kind fault
 -- ---- when a session answers
 
 -- bytes of an input that goes on
-abbrev pub coming : List ℕ → Incoming
-coming left = record { left = left; ended = false }
+abbrev pub rest_to_come : List ℕ → Incoming
+rest_to_come left = record { left = left; ended = false }
 
 -- the first line is a load, and fewer lines of its text have come than it counts
 pub record IsOpenLoad (workers : ℕ) (left : List ℕ) : Type 0 where
   pub end : ℕ
-  pub first : EndsLines 1 (coming left) 0 end
+  pub first : EndsLines 1 (rest_to_come left) 0 end
   pub domain : List ℕ
   pub locale : List ℕ
   pub options : Options
@@ -176,7 +177,7 @@ pub record IsOpenLoad (workers : ℕ) (left : List ℕ) : Type 0 where
   pub lines : ℕ
   pub fewer : lines < count
   pub text_end : ℕ
-  pub ends : EndsLines lines (coming left) end text_end
+  pub ends : EndsLines lines (rest_to_come left) end text_end
   pub lacks : LacksEnd left text_end (length left)
 
 -- no whole line has come, or a load without its whole text: no round ends here

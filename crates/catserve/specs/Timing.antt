@@ -1,6 +1,6 @@
 -- Private: when a session waits for more of its input, and what it has answered by then.
 use Rattle.std.specs.Prelude.{◌≡◌, ◌⊎◌, ℕ, false, List, [], ◌∷◌, ◌++◌, take, Option, Some, None, Result, Ok, Err}
-use Rattle.devices.specs.Logs.{AnswersFirst, Event, Gave, Grows, Log, came, given as gave}
+use Rattle.devices.specs.Logs.{AnswersFirst, Event, Gave, Grows, Log, came, given_bytes as gave}
 use Rattle.devices.specs.Incoming.{Incoming}
 use Rattle.devices.specs.Waiting.{ReadsWhile, StillCounts}
 use Rattle.catserve.specs.declared.hearing.Heard.{Heard}

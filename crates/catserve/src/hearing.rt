@@ -9,8 +9,8 @@ ghost use Rattle.devices.specs.Waiting.{ReadsWhile, StillCounts, StillWaits, Wai
 ghost use Rattle.catserve.specs.Timing.{BeginsInTime, HearsInTime, ReadsText};
 ghost use Rattle.devices.specs.Devices.{input_seen};
 ghost use Rattle.catserve.specs.Session.{most_lines, AnswersInTime};
-ghost use Rattle.catserve.specs.Hearing.{unheard, EndsNext, FailsFor, FailsInPreamble, HearsNothing, HearsNoText};
-ghost use Rattle.catserve.specs.Hearing.{commands_of, line_of_kind, size_behind, HearsText};
+ghost use Rattle.catserve.specs.Hearing.{unheard_session, EndsNext, FailsFor, FailsInPreamble, HearsNothing};
+ghost use Rattle.catserve.specs.Hearing.{HearsNoText, commands_of, line_of_kind, size_behind, HearsText};
 
 use crate::said::{PreambleLine, read_preamble_line, read_said};
 use crate::session_fault::SessionFault;
@@ -53,7 +53,7 @@ impl Model for Hearing {
 impl Hearing {
     /// A session whose input hasn't been read.
     pub(crate) fn new(alloc: Global) -> Result<Hearing, AllocError>
-        ensures { IfOk result (λ hearing. hearing ≡ unheard) }
+        ensures { IfOk result (λ hearing. hearing ≡ unheard_session) }
     {
         Ok(Hearing {
             input: LineInput::new(alloc)?,
@@ -227,7 +227,7 @@ impl Hearing {
     /// The number of workers: what the first line that says something gives, or `DEFAULT_WORKERS`. Takes off the lines
     /// before it that say nothing, and the line itself if it gives the number.
     pub(crate) fn hear_preamble<R: Source>(&mut self, reader: &mut R) -> Result<u32, SessionFault>
-        requires { self.old ≡ unheard }
+        requires { self.old ≡ unheard_session }
         ensures begins { let input = input_seen R.remaining R.reads R.failures in
             IfOk result (λ workers. BeginsInTime None (input reader.old) (input reader.new) self.new workers
             (R.log reader.old) (R.log reader.new)) }

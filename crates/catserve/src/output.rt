@@ -1,6 +1,6 @@
 //! The lines that a run writes.
 ghost use Rattle.std.specs.Prelude.{◌≡◌, ◌≢◌, ◌++◌, Err, IfOk, OnOk, string_bytes};
-ghost use Rattle.catserve.specs.Output.{escape, escaped, version_line, answer_line};
+ghost use Rattle.catserve.specs.Output.{escape, escaped_text, version_line, answer_line};
 ghost use Rattle.catserve.specs.Running.{IsLineOf};
 
 use bstr::ByteSlice;
@@ -22,7 +22,7 @@ fn write_byte(output: &mut Vec<u8>, byte: u8) -> Result<(), AllocError>
 
 /// Writes a text with its escapes.
 fn write_escaped(output: &mut Vec<u8>, text: &str) -> Result<(), AllocError>
-    ensures { OnOk result (output.new.items ≡ output.old.items ++ escaped text.now) }
+    ensures { OnOk result (output.new.items ≡ output.old.items ++ escaped_text text.now) }
 {
     let mut rest = text.as_bytes();
     'runs: while let Some(at) = rest.find_byteset(b"\n\t\\") {

@@ -1,7 +1,7 @@
 //! A run of a script over a reader and a writer.
 ghost use Rattle.std.specs.Prelude.{◌≡◌, IfOk, IfErr, length};
 ghost use Rattle.std.specs.List.{flat_map};
-ghost use Rattle.script_text.specs.CommandValues.{listed};
+ghost use Rattle.script_text.specs.CommandValues.{command_list};
 ghost use Rattle.catserve.specs.Rounds.{HasOutput};
 ghost use Rattle.catserve.specs.Run.{ReadsText, Runs};
 ghost use Rattle.devices.specs.Devices.{input_seen, output_seen};
@@ -25,9 +25,9 @@ fn play_all<T: Threads + Wait + Sync, W: Sink>(
     writer: &mut W,
 ) -> Result<(), ScriptKind>
     requires { IsFresh (length player.old.desks) player.old }
-    ensures ok { IfOk result (λ _. HasPlayedAll (length player.old.desks) (flat_map listed lines.entry.items)
+    ensures ok { IfOk result (λ _. HasPlayedAll (length player.old.desks) (flat_map command_list lines.entry.items)
         (W.contents writer.old) (W.contents writer.new)) }
-    ensures fault { IfErr result (CutsShort (flat_map listed lines.entry.items)) }
+    ensures fault { IfErr result (CutsShort (flat_map command_list lines.entry.items)) }
 {
     'lines: for said in lines {
         let Said { line, text } = said;

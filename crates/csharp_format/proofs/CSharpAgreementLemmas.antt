@@ -6,7 +6,7 @@ use Rattle.std.proofs.lemmas.Bool.{cases_Bool, cases_lt, and_parts, eqb-true, lt
 use Rattle.format_arguments.specs.declared.Strictness.{Strictness}
 use Rattle.format_arguments.specs.declared.Strictness.TheVariants.{Same, Lenient}
 use Rattle.numbered_arguments.specs.declared.Numbered.{Numbered}
-use Rattle.csharp_format.specs.CSharpAgreement.{passed, passed_with, agree, is_counted, is_passed}
+use Rattle.csharp_format.specs.CSharpAgreement.{argument_count, passed_with, agree, is_counted, is_passed}
 
 -- after an argument the count is larger than its number, and no smaller than before
 counted : (count : ℕ) (a : Numbered) → is_counted a ≡ true
@@ -33,17 +33,18 @@ all_passed count most (a ∷ more) h le =
     (omega (arith, here.0, others.0), rw (lt-ltb a.number most below, others.1) refl)
 
 enough : (original translation : List Numbered) (rule : Strictness) → agree original translation rule ≡ true
-    → passed translation ≤ passed original
+    → argument_count translation ≤ argument_count original
 enough original translation Same h =
-    let same : passed original ≡ passed translation = eqb-true (passed original) (passed translation) h in
+    let same : argument_count original ≡ argument_count translation =
+    eqb-true (argument_count original) (argument_count translation) h in
     omega (arith, same)
-enough original translation Lenient h = elim (cases_lt (passed original) (passed translation)) [
-  | inl less ↦ absurd (false≢true (rw (lt-ltb (passed original) (passed translation) less) at h))
+enough original translation Lenient h = elim (cases_lt (argument_count original) (argument_count translation)) [
+  | inl less ↦ absurd (false≢true (rw (lt-ltb (argument_count original) (argument_count translation) less) at h))
   | inr le ↦ omega (arith, le)
 ]
 
 pub each_passed : (original translation : List Numbered) (rule : Strictness)
     → agree original translation rule ≡ true → list_all is_counted translation ≡ true
-    → list_all (is_passed (passed original)) translation ≡ true
+    → list_all (is_passed (argument_count original)) translation ≡ true
 each_passed original translation rule h small =
-    (all_passed 0 (passed original) translation small (enough original translation rule h)).1
+    (all_passed 0 (argument_count original) translation small (enough original translation rule h)).1

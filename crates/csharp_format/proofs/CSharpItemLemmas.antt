@@ -8,8 +8,9 @@ use Rattle.std.proofs.lemmas.List.{length-drop}
 use Rattle.format_arguments.specs.Bytes.{run, behind, behind_one}
 use Rattle.numbered_arguments.specs.NumberedArguments.{number_of}
 use Rattle.csharp_format.specs.CSharpItems.{open_brace, close_brace, comma, colon, behind_digits, is_minus}
-use Rattle.csharp_format.specs.CSharpItems.{behind_alignment, is_inner, behind_format, behind_brace, aligned, closed}
-use Rattle.csharp_format.specs.CSharpItems.{numbered, item, item_piece, opened, doubled, piece}
+use Rattle.csharp_format.specs.CSharpItems.{behind_alignment, is_inner, behind_format, behind_brace, with_alignment}
+use Rattle.csharp_format.specs.CSharpItems.{with_brace}
+use Rattle.csharp_format.specs.CSharpItems.{with_number, item, item_piece, behind_opening, behind_closing, piece}
 
 -- what was found is no longer than the text
 abbrev Within : List ℕ → Option (List ℕ) → Type 0
@@ -67,24 +68,24 @@ brace_within (b ∷ more) rest e = elim (cases_Bool (b == close_brace)) [
   | inr other ↦ absurd (cc (rw other at e))
 ]
 
-aligned_within : (text : List ℕ) (found : Option (List ℕ)) → Within text found → Within text (aligned found)
+aligned_within : (text : List ℕ) (found : Option (List ℕ)) → Within text found → Within text (with_alignment found)
 aligned_within text None h rest e = absurd (cc e)
 aligned_within text (Some more) h rest e = omega (arith, h more refl, alignment_within more rest e)
 
-closed_within : (text : List ℕ) (found : Option (List ℕ)) → Within text found → Within text (closed found)
+closed_within : (text : List ℕ) (found : Option (List ℕ)) → Within text found → Within text (with_brace found)
 closed_within text None h rest e = absurd (cc e)
 closed_within text (Some more) h rest e =
     omega (arith, h more refl, format_within more, brace_within (behind_format more) rest e)
 
 numbered_within : (text : List ℕ) (number : ℕ) (found : Option (List ℕ)) → Within text found
-    → PairWithin ℕ text (numbered number found)
+    → PairWithin ℕ text (with_number number found)
 numbered_within text number None h p e = absurd (cc e)
 numbered_within text number (Some rest) h p e = pair_within ℕ (number, rest) p (length text) e (h rest refl)
 
 item_within : (text : List ℕ) → PairWithin ℕ text (item text)
 item_within text = numbered_within text (number_of (run is_ascii_digit text))
-    (closed (aligned (behind_digits text)))
-    (closed_within text (aligned (behind_digits text))
+    (with_brace (with_alignment (behind_digits text)))
+    (closed_within text (with_alignment (behind_digits text))
     (aligned_within text (behind_digits text) (digits_within text)))
 
 item_piece_within : (text : List ℕ) (found : Option (ℕ × List ℕ)) → PairWithin ℕ text found
@@ -92,14 +93,14 @@ item_piece_within : (text : List ℕ) (found : Option (ℕ × List ℕ)) → Pai
 item_piece_within text None h p e = absurd (cc e)
 item_piece_within text (Some x) h p e = pair_within (Option ℕ) (Some x.0, x.1) p (length text) e (h x refl)
 
-opened_within : (text : List ℕ) → PairWithin (Option ℕ) text (opened text)
+opened_within : (text : List ℕ) → PairWithin (Option ℕ) text (behind_opening text)
 opened_within [] p e = absurd (cc e)
 opened_within (b ∷ more) p e = elim (cases_Bool (b == open_brace)) [
   | inl is ↦ pair_within (Option ℕ) (None, more) p (length (b ∷ more)) (rw is at e) (omega arith)
   | inr other ↦ item_piece_within (b ∷ more) (item (b ∷ more)) (item_within (b ∷ more)) p (rw other at e)
 ]
 
-doubled_within : (text : List ℕ) → PairWithin (Option ℕ) text (doubled text)
+doubled_within : (text : List ℕ) → PairWithin (Option ℕ) text (behind_closing text)
 doubled_within [] p e = absurd (cc e)
 doubled_within (b ∷ more) p e = elim (cases_Bool (b == close_brace)) [
   | inl is ↦ pair_within (Option ℕ) (None, more) p (length (b ∷ more)) (rw is at e) (omega arith)

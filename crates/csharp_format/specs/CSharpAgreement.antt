@@ -10,13 +10,13 @@ abbrev pub passed_with : ℕ → Numbered → ℕ
 passed_with count a = if nat_lt a.number count then count else (a.number + 1) % 2 ^ 32
 
 -- how many arguments a call has to pass, where the first has number 0
-abbrev pub passed : List Numbered → ℕ
-passed asked = fold passed_with 0 asked
+abbrev pub argument_count : List Numbered → ℕ
+argument_count asked = fold passed_with 0 asked
 
 -- the calls pass as many; leniently, the translation may do with fewer
 abbrev pub agree : List Numbered → List Numbered → Strictness → Bool
-agree original translation Same = passed original == passed translation
-agree original translation Lenient = not (nat_lt (passed original) (passed translation))
+agree original translation Same = argument_count original == argument_count translation
+agree original translation Lenient = not (nat_lt (argument_count original) (argument_count translation))
 
 -- ---- what agreement says of the call
 

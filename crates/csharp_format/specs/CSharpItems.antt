@@ -1,21 +1,10 @@
 -- Format items of .NET's composite formats, and what stands between them (GNU gettext manual, "C# Format Strings";
 -- Microsoft, "Composite formatting").
+pub use Rattle.byte_text.specs.Characters.{open_brace, close_brace, comma, colon}
 use Rattle.std.specs.Prelude.{ℕ, Bool, not, ◌==◌, if◌then◌else◌, List, [], ◌∷◌, Option, None, Some}
 use Rattle.std.specs.Char.{is_ascii_digit}
 use Rattle.format_arguments.specs.Bytes.{run, behind, behind_one}
 use Rattle.numbered_arguments.specs.NumberedArguments.{number_of}
-
-abbrev pub open_brace : ℕ
-open_brace = 123
-
-abbrev pub close_brace : ℕ
-close_brace = 125
-
-abbrev pub comma : ℕ
-comma = 44
-
-abbrev pub colon : ℕ
-colon = 58
 
 -- ---- the parts of an item: each says what follows it; None: the text doesn't begin with it
 
@@ -46,22 +35,22 @@ behind_brace (b ∷ more) = if b == close_brace then Some more else None
 
 -- ---- items
 
-abbrev pub aligned : Option (List ℕ) → Option (List ℕ)
-aligned None = None
-aligned (Some text) = behind_alignment text
+abbrev pub with_alignment : Option (List ℕ) → Option (List ℕ)
+with_alignment None = None
+with_alignment (Some text) = behind_alignment text
 
-abbrev pub closed : Option (List ℕ) → Option (List ℕ)
-closed None = None
-closed (Some text) = behind_brace (behind_format text)
+abbrev pub with_brace : Option (List ℕ) → Option (List ℕ)
+with_brace None = None
+with_brace (Some text) = behind_brace (behind_format text)
 
-abbrev pub numbered : ℕ → Option (List ℕ) → Option (ℕ × List ℕ)
-numbered number None = None
-numbered number (Some rest) = Some (number, rest)
+abbrev pub with_number : ℕ → Option (List ℕ) → Option (ℕ × List ℕ)
+with_number number None = None
+with_number number (Some rest) = Some (number, rest)
 
 -- behind an opening brace: "index", ",alignment", ":formatString" and a closing brace; it is the index, which is an
 -- argument's number, and what follows
 abbrev pub item : List ℕ → Option (ℕ × List ℕ)
-item text = numbered (number_of (run is_ascii_digit text)) (closed (aligned (behind_digits text)))
+item text = with_number (number_of (run is_ascii_digit text)) (with_brace (with_alignment (behind_digits text)))
 
 -- ---- pieces of a text
 
@@ -70,17 +59,17 @@ item_piece None = None
 item_piece (Some found) = Some (Some found.0, found.1)
 
 -- behind an opening brace: a second one, or an item
-abbrev pub opened : List ℕ → Option (Option ℕ × List ℕ)
-opened [] = None
-opened (b ∷ more) = if b == open_brace then Some (None, more) else item_piece (item (b ∷ more))
+abbrev pub behind_opening : List ℕ → Option (Option ℕ × List ℕ)
+behind_opening [] = None
+behind_opening (b ∷ more) = if b == open_brace then Some (None, more) else item_piece (item (b ∷ more))
 
 -- behind a closing brace: a second one
-abbrev pub doubled : List ℕ → Option (Option ℕ × List ℕ)
-doubled [] = None
-doubled (b ∷ more) = if b == close_brace then Some (None, more) else None
+abbrev pub behind_closing : List ℕ → Option (Option ℕ × List ℕ)
+behind_closing [] = None
+behind_closing (b ∷ more) = if b == close_brace then Some (None, more) else None
 
 -- what a text begins with: an item, with the number of its argument; or a byte or two braces, which ask for nothing
 abbrev pub piece : List ℕ → Option (Option ℕ × List ℕ)
 piece [] = None
 piece (b ∷ more) =
-    if b == open_brace then opened more else if b == close_brace then doubled more else Some (None, more)
+    if b == open_brace then behind_opening more else if b == close_brace then behind_closing more else Some (None, more)

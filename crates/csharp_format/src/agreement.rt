@@ -10,7 +10,7 @@ use numbered_arguments::Numbered;
 
 /// How many arguments a call has to pass.
 fn passed(asked: &[Numbered]) -> u32
-    ensures { result ≡ spec.passed asked.now }
+    ensures { result ≡ spec.argument_count asked.now }
 {
     let mut count: u32 = 0;
     'asked: for argument in asked {
@@ -38,5 +38,5 @@ pub fn agrees(original: &[Numbered], translation: &[Numbered], rule: Strictness)
 pub fn each_is_passed()
     ensures { (original translation : List Asked) (rule : Rule) → spec.agree original translation rule ≡ true →
         list_all spec.is_counted translation ≡ true →
-        list_all (spec.is_passed (spec.passed original)) translation ≡ true }
+        list_all (spec.is_passed (spec.argument_count original)) translation ≡ true }
 {}

@@ -72,7 +72,8 @@ fn after_brace(text: &[u8]) -> Option<&[u8]>
 
 /// What follows an item, from after its opening brace.
 fn after_item(text: &[u8]) -> Option<&[u8]>
-    ensures { option_map (λ rest. rest.now) result ≡ spec.closed (spec.aligned (spec.behind_digits text.now)) }
+    ensures { option_map (λ rest. rest.now) result ≡ spec.with_brace
+        (spec.with_alignment (spec.behind_digits text.now)) }
 {
     match after_digits(text) {
         Some(behind_number) => match after_alignment(behind_number) {
@@ -97,7 +98,7 @@ fn read_item(text: &[u8]) -> Option<(u32, &[u8])>
 
 /// Reads what stands behind an opening brace: a second one, or an item.
 fn read_opened(text: &[u8]) -> Option<(Option<u32>, &[u8])>
-    ensures { option_map (λ found. (found.0, found.1.now)) result ≡ spec.opened text.now }
+    ensures { option_map (λ found. (found.0, found.1.now)) result ≡ spec.behind_opening text.now }
 {
     match split_byte(text) {
         Some((b'{', rest)) => Some((None, rest)),
@@ -111,7 +112,7 @@ fn read_opened(text: &[u8]) -> Option<(Option<u32>, &[u8])>
 
 /// Reads a second closing brace.
 fn read_doubled(text: &[u8]) -> Option<(Option<u32>, &[u8])>
-    ensures { option_map (λ found. (found.0, found.1.now)) result ≡ spec.doubled text.now }
+    ensures { option_map (λ found. (found.0, found.1.now)) result ≡ spec.behind_closing text.now }
 {
     match after_brace(text) {
         Some(rest) => Some((None, rest)),

@@ -7,10 +7,11 @@ use Rattle.mo_segments.specs.Machine.{value, value_text}
 use Rattle.mo_segments.specs.declared.machine.Value.{Value}
 use Rattle.mo_dependent.specs.Splits.{end_of, name_at, LieFrom}
 use Rattle.mo_dependent.proofs.Steps.{lies_to}
-use Rattle.dependent_files.specs.MessagesHere.{joined, expanded_from, Split}
+use Rattle.dependent_files.specs.MessagesHere.{joined_text, expanded_from, Split}
 
 behind : (out piece own : List ℕ) (rest : Option (List ℕ))
-    → option_map (λ r. ((out ++ piece) ++ own) ++ r) rest ≡ option_map (λ r. out ++ r) (joined piece (Some own) rest)
+    → option_map (λ r. ((out ++ piece) ++ own) ++ r) rest
+    ≡ option_map (λ r. out ++ r) (joined_text piece (Some own) rest)
 behind out piece own None = refl
 behind out piece own (Some rest) = ap Some (
     append_assoc (out ++ piece) own rest ∙ append_assoc out piece (own ++ rest)
@@ -29,7 +30,7 @@ module _ (ss : List Split) (i : ℕ) (s : Split) (lt : i < length ss) (is : s �
 
   split_off : (text out : List ℕ) (from : ℕ) (whole : Option (List ℕ))
       → option_map (λ r. out ++ r) (expanded_from text from (drop i ss)) ≡ whole
-      → option_map (λ r. out ++ r) (joined (take (s.start - from) (drop from text)) (value (name_at text s))
+      → option_map (λ r. out ++ r) (joined_text (take (s.start - from) (drop from text)) (value (name_at text s))
       (expanded_from text (end_of s) (drop (i + 1) ss))) ≡ whole
   split_off text out from whole told =
       ap (λ (l : List Split). option_map (λ r. out ++ r) (expanded_from text from l)) (sym left) ∙ told
@@ -43,13 +44,13 @@ module _ (ss : List Split) (i : ℕ) (s : Split) (lt : i < length ss) (is : s �
       let piece = take (s.start - from) (drop from text) in
       let rest = expanded_from text (end_of s) (drop (i + 1) ss) in
       rw e (behind out piece (value_text v) rest)
-      ∙ ap (λ (o : Option (List ℕ)). option_map (λ r. out ++ r) (joined piece o rest)) known
+      ∙ ap (λ (o : Option (List ℕ)). option_map (λ r. out ++ r) (joined_text piece o rest)) known
       ∙ split_off text out from whole told
 
   pub unknown : (text out : List ℕ) (from : ℕ) (whole : Option (List ℕ))
       → option_map (λ r. out ++ r) (expanded_from text from (drop i ss)) ≡ whole
       → None ≡ value (name_at text s) → None ≡ whole
   unknown text out from whole told none =
-      ap (λ (o : Option (List ℕ)). option_map (λ r. out ++ r) (joined (take (s.start - from) (drop from text)) o
+      ap (λ (o : Option (List ℕ)). option_map (λ r. out ++ r) (joined_text (take (s.start - from) (drop from text)) o
       (expanded_from text (end_of s) (drop (i + 1) ss)))) none
       ∙ split_off text out from whole told

@@ -12,19 +12,19 @@ pub use Rattle.mo_dependent.specs.declared.split.Dependent.{Dependent}
 -- ---- a text
 
 -- a piece, what the segment after it stands for, and what follows, if these are there
-abbrev pub joined : List ℕ → Option (List ℕ) → Option (List ℕ) → Option (List ℕ)
-joined piece (Some value) (Some rest) = Some (piece ++ value ++ rest)
-joined piece _ _ = None
+abbrev pub joined_text : List ℕ → Option (List ℕ) → Option (List ℕ) → Option (List ℕ)
+joined_text piece (Some value) (Some rest) = Some (piece ++ value ++ rest)
+joined_text piece _ _ = None
 
 -- the text after its first `from` bytes, with what each segment stands for in its place; none if the machine doesn't
 -- know one
 abbrev pub expanded_from : List ℕ → ℕ → List Split → Option (List ℕ)
 expanded_from text from [] = Some (drop from text)
 expanded_from text from (s ∷ ss) =
-    joined (take (s.start - from) (drop from text)) (value (name_at text s)) (expanded_from text (end_of s) ss)
+    joined_text (take (s.start - from) (drop from text)) (value (name_at text s)) (expanded_from text (end_of s) ss)
 
-abbrev pub expanded : SplitText → Option (List ℕ)
-expanded text = expanded_from text.bytes.items 0 text.splits.items
+abbrev pub expanded_text : SplitText → Option (List ℕ)
+expanded_text text = expanded_from text.bytes.items 0 text.splits.items
 
 -- ---- messages
 
@@ -34,7 +34,7 @@ both (Some original) (Some translation) = Some (original, translation)
 both _ _ = None
 
 abbrev pub message_here : Dependent → Option Strings
-message_here m = both (expanded m.original) (expanded m.translation)
+message_here m = both (expanded_text m.original) (expanded_text m.translation)
 
 -- the static messages, and after them the system-dependent ones of which the machine knows all segments
 abbrev pub messages_here : List Strings → List Dependent → List Strings

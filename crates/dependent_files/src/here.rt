@@ -12,7 +12,7 @@ use std::alloc::{AllocError, Global};
 /// A text with what each segment stands for in its place. None if this machine doesn't know a segment.
 fn expanded(alloc: Global, text: &SplitText) -> Result<Option<Vec<u8>>, AllocError>
     requires { HasSplits text.now }
-    ensures { IfOk result (λ found. option_map (λ v. v.items) found ≡ Here.expanded text.now) }
+    ensures { IfOk result (λ found. option_map (λ v. v.items) found ≡ Here.expanded_text text.now) }
 {
     let bytes = text.bytes.as_slice();
     let mut out = Vec::new(alloc);

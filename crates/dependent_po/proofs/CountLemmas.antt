@@ -4,7 +4,7 @@ use Rattle.std.specs.Prelude.{◌&&◌, if◌then◌else◌}
 use Rattle.std.specs.List.{count_by}
 use Rattle.std.proofs.lemmas.List.Sums.{sum_by-cons}
 use Rattle.po_text.specs.Entries as po
-use Rattle.catalogue.specs.Meaning.{is_fuzzy, is_translated, counted}
+use Rattle.catalogue.specs.Meaning.{is_fuzzy, is_translated, counted_entries}
 use Rattle.catalogue.specs.Meaning as catalogue
 use Rattle.dependent_po.specs.Counts.{standing_of, same_standing, stats_by, is_header, is_untranslated, Stats, Standing}
 use Rattle.dependent_po.specs.declared.counts.Standing.TheVariants.{Header, Untranslated, Fuzzy, Translated}
@@ -14,17 +14,17 @@ one_if p x = cond (p x) 1 0
 
 over_entries : (s : Standing) (q : po.Entry → Bool)
     → ((e : po.Entry) → same_standing s (standing_of e) ≡ (not (is_header e) && q e)) → (es : List po.Entry)
-    → count_by (same_standing s) (map standing_of es) ≡ count_by q (counted es)
+    → count_by (same_standing s) (map standing_of es) ≡ count_by q (counted_entries es)
 over_entries s q says [] = refl
 over_entries s q says (e ∷ es) =
     sum_by-cons (one_if (same_standing s)) (standing_of e) (map standing_of es)
     ∙ ap (λ n. one_if (same_standing s) (standing_of e) + n) (over_entries s q says es)
-    ∙ ap (λ b. cond b 1 0 + count_by q (counted es)) (says e) ∙ of (is_header e) refl
+    ∙ ap (λ b. cond b 1 0 + count_by q (counted_entries es)) (says e) ∙ of (is_header e) refl
   where
-    of : (h : Bool) → is_header e ≡ h → cond (not (is_header e) && q e) 1 0 + count_by q (counted es)
-        ≡ count_by q (cond (not (is_header e)) (e ∷ counted es) (counted es))
+    of : (h : Bool) → is_header e ≡ h → cond (not (is_header e) && q e) 1 0 + count_by q (counted_entries es)
+        ≡ count_by q (cond (not (is_header e)) (e ∷ counted_entries es) (counted_entries es))
     of true is = rw is (omega arith)
-    of false is = rw is (sym (sum_by-cons (one_if q) e (counted es)))
+    of false is = rw is (sym (sum_by-cons (one_if q) e (counted_entries es)))
 
 abbrev stands_so : Bool → Bool → Bool → Standing
 stands_so h u f = if h then Header else if u then Untranslated else if f then Fuzzy else Translated
@@ -57,6 +57,6 @@ stats_are es =
     (λ e. untranslated_so (is_header e) (is_untranslated e) e.fuzzy) es in
     ap (λ n. of n (count_by (same_standing Fuzzy) (map standing_of es))
     (count_by (same_standing Untranslated) (map standing_of es))) t
-    ∙ ap (λ n. of (count_by is_translated (counted es)) n
+    ∙ ap (λ n. of (count_by is_translated (counted_entries es)) n
     (count_by (same_standing Untranslated) (map standing_of es))) f
-    ∙ ap (λ n. of (count_by is_translated (counted es)) (count_by is_fuzzy (counted es)) n) u
+    ∙ ap (λ n. of (count_by is_translated (counted_entries es)) (count_by is_fuzzy (counted_entries es)) n) u

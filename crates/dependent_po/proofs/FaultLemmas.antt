@@ -11,7 +11,7 @@ use Rattle.po_text.proofs.Outcomes.{gives_one}
 use Rattle.po_checks.specs.Fails.{IsDuplicateAt, IsForeignAt, IsFirst, rank}
 use Rattle.po_checks.specs.Fails as plain
 use Rattle.po_checks.specs.Found.{FirstLine, FirstFault, FailsFrom, IsFault}
-use Rattle.po_checks.specs.Kept.{kept, kept_header, header_line_of}
+use Rattle.po_checks.specs.Kept.{kept_entries, kept_header, header_line_of}
 use Rattle.po_checks.specs.Refusal.{out_of_memory}
 use Rattle.po_checks.specs.declared.findings.Findings.{Findings}
 use Rattle.po_checks.specs.declared.fault.LoadKind.TheVariants.{TooLarge, NotUtf8, BadEscape, OpenString, BadWord}
@@ -23,7 +23,8 @@ use Rattle.catalogue.specs.Meaning as catalogue
 use Rattle.catalogue.specs.declared.compiler.Compiled.{Compiled}
 use Rattle.dependent_po.specs.Formats.{HasOtherArguments}
 use Rattle.dependent_po.specs.EntryGathering.{FailsLate, HasGathered, IsLateFault, IsSoundText, Rule, Options, LoadKind}
-use Rattle.dependent_po.specs.Headers.{header_texts, stored_texts, IsHeaderOf, Header}
+use Rattle.po_checks.specs.Headers.{header_texts, stored_texts, IsHeaderOf}
+use Rattle.po_checks.specs.declared.header.Header.{Header}
 use Rattle.dependent_po.specs.Late.{is_late, is_for_newlines, with_mismatch, LoadFault}
 use Rattle.dependent_po.specs.MacroMeaning.{Fails, Refuses, FirstAt}
 use Rattle.dependent_po.specs.declared.gathered.Gathered.{Gathered}
@@ -56,7 +57,7 @@ other_first o es f first not_last = record {
     holds = fails_back o es f.kind f.line first.holds
 
 formats_first : (o : Options) (es : List po.Entry) (line : ℕ) → IsTrue o.checked
-    → FirstAt HasOtherArguments (kept o es) line
+    → FirstAt HasOtherArguments (kept_entries o es) line
     → ((kind : LoadKind) (at : ℕ) → rank kind < 16 → FailsFrom 11 o (bares es) kind at → ⊥)
     → FirstFault (FailsLate o es) (Some (record { kind = FormatMismatch; line = line }))
 formats_first o es line checked found none = record {
@@ -69,7 +70,7 @@ formats_first o es line checked found none = record {
 
 no_formats : (o : Options) (es : List po.Entry) (fault : Option LoadFault)
     → FirstFault (FailsFrom 11 o (bares es)) fault
-    → ((line : ℕ) → IsTrue o.checked → FirstAt HasOtherArguments (kept o es) line → ⊥)
+    → ((line : ℕ) → IsTrue o.checked → FirstAt HasOtherArguments (kept_entries o es) line → ⊥)
     → FirstFault (FailsLate o es) fault
 no_formats o es None none never = λ kind line late. elim (fails_to o es kind line late) [
   | inl x ↦ none kind line x
@@ -85,9 +86,10 @@ no_formats o es (Some f) first never = record {
 
 checked_first : (o : Options) (es : List po.Entry) (fault : Option LoadFault) (mismatch : Option ℕ)
     → IsTrue o.checked → FirstFault (FailsFrom 11 o (bares es)) fault
-    → FirstLine HasOtherArguments (kept o es) mismatch → FirstFault (FailsLate o es) (with_mismatch fault mismatch)
+    → FirstLine HasOtherArguments (kept_entries o es) mismatch
+    → FirstFault (FailsLate o es) (with_mismatch fault mismatch)
 checked_first o es fault None checked first none = no_formats o es fault first
-    (λ line c found. first_not_none HasOtherArguments (kept o es) line found none)
+    (λ line c found. first_not_none HasOtherArguments (kept_entries o es) line found none)
 checked_first o es None (Some line) checked first found = formats_first o es line checked found
     (λ kind at lt x. first kind at x)
 checked_first o es (Some f) (Some line) checked first found = of (is_for_newlines f.kind) refl
@@ -100,7 +102,7 @@ checked_first o es (Some f) (Some line) checked first found = of (is_for_newline
 
 pub with_formats : (o : Options) (es : List po.Entry) (fault : Option LoadFault) (mismatch : Option ℕ)
     → FirstFault (FailsFrom 11 o (bares es)) fault
-    → (IsTrue o.checked → FirstLine HasOtherArguments (kept o es) mismatch)
+    → (IsTrue o.checked → FirstLine HasOtherArguments (kept_entries o es) mismatch)
     → FirstFault (FailsLate o es) (with_mismatch fault (if o.checked then mismatch else None))
 with_formats o es fault mismatch first found = of o.checked refl
   where

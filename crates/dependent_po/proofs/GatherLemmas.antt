@@ -13,29 +13,18 @@ use Rattle.po_text.specs.Outcome.{IsReadable, body}
 use Rattle.po_text.specs.Progress.{HasRead, GoesOn}
 use Rattle.po_text.specs.declared.reader.EntryReader.{EntryReader}
 use Rattle.po_checks.specs.Found.{FirstLine, HasFound, LooksAt}
-use Rattle.po_checks.specs.Kept.{is_header, is_kept, kept, kept_header}
+use Rattle.po_checks.specs.Kept.{is_header, is_kept, kept_entries, kept_header}
 use Rattle.po_checks.specs.declared.findings.Findings.{Findings}
 use Rattle.po_checks.proofs.Checking.{kept_skip, kept_more}
+use Rattle.po_checks.proofs.OwnHeader.{header_more}
 use Rattle.dependent_po.specs.Counts.{standing_of, Standing}
 use Rattle.dependent_po.specs.Formats.{HasOtherArguments}
 use Rattle.dependent_po.specs.EntryGathering.{AddsHeader, AddsKept, AreGathered, Gathers, HasGathered, Options}
-use Rattle.dependent_po.specs.Headers.{IsHeaderOf, own_header, Header}
+use Rattle.po_checks.specs.Headers.{IsHeaderOf, own_header}
+use Rattle.po_checks.specs.declared.header.Header.{Header}
 use Rattle.dependent_po.specs.declared.gathered.Gathered.{Gathered}
 
 -- ---- the header
-
-find_own : (o : Options) (e : po.Entry) (keeps heads : Bool) → is_kept o e ≡ keeps → is_header e ≡ heads
-    → find is_header (cond (is_kept o e) (e ∷ []) []) ≡ own_header o e
-find_own o e true true k h = rw (k, h) refl
-find_own o e true false k h = rw (k, h) refl
-find_own o e false heads k h = rw k refl
-
-header_more : (o : Options) (es : List po.Entry) (e : po.Entry) → kept_header o (es ++ (e ∷ []))
-    ≡ option_or (kept_header o es) (own_header o e)
-header_more o es e =
-    ap (find is_header) (filter-append (is_kept o) es (e ∷ []))
-    ∙ find-append is_header (kept o es) (cond (is_kept o e) (e ∷ []) [])
-    ∙ ap (option_or (kept_header o es)) (find_own o e (is_kept o e) (is_header e) refl refl)
 
 either_more : (own header : Option po.Entry) (old new : Option Header) → IsHeaderOf header old
     → (old ≡ None → IsHeaderOf own new) → ((h : Header) → old ≡ Some h → new ≡ old)
@@ -60,12 +49,12 @@ pub skipped : (o : Options) (e : po.Entry) (old mid new : Gathered) (looked : Fi
     ≡ old.standings.items ++ s ∷ [] → mid.messages ≡ old.messages → mid.mismatch ≡ old.mismatch → mid.header
     ≡ old.header → AddsHeader o e mid new → Gathers o e old new
 skipped o e old mid new looked s lacks looks s_is found pushed messages mismatch header adds es g =
-    let ks : kept o (es ++ e ∷ []) ≡ kept o es = kept_skip o es e lacks in
+    let ks : kept_entries o (es ++ e ∷ []) ≡ kept_entries o es = kept_skip o es e lacks in
     record {
-      messages = subst (AreGathered (kept o (es ++ e ∷ []))) (sym (adds.messages ∙ messages))
+      messages = subst (AreGathered (kept_entries o (es ++ e ∷ []))) (sym (adds.messages ∙ messages))
           (subst (λ (xs : List po.Entry). AreGathered xs old.messages) (sym ks) g.messages);
       findings = subst (HasFound o (es ++ e ∷ [])) (sym (adds.findings ∙ found)) (looks es g.findings);
-      mismatch = λ checked. subst (FirstLine HasOtherArguments (kept o (es ++ e ∷ [])))
+      mismatch = λ checked. subst (FirstLine HasOtherArguments (kept_entries o (es ++ e ∷ [])))
           (sym (adds.mismatch ∙ mismatch))
           (subst (λ (xs : List po.Entry). FirstLine HasOtherArguments xs old.mismatch) (sym ks) (g.mismatch checked));
       standings = ap (λ v. v.items) adds.standings ∙ pushed
@@ -80,15 +69,15 @@ pub added : (o : Options) (e : po.Entry) (old mid headed new : Gathered) (looked
     → mid.standings.items ≡ old.standings.items ++ s ∷ [] → mid.messages ≡ old.messages → mid.mismatch ≡ old.mismatch
     → mid.header ≡ old.header → AddsHeader o e mid headed → AddsKept o e headed new → Gathers o e old new
 added o e old mid headed new looked s keeps looks s_is found pushed messages mismatch header adds kept_adds es g =
-    let ks : kept o (es ++ e ∷ []) ≡ kept o es ++ e ∷ [] = kept_more o es e keeps in
+    let ks : kept_entries o (es ++ e ∷ []) ≡ kept_entries o es ++ e ∷ [] = kept_more o es e keeps in
     record {
       messages = subst (λ (xs : List po.Entry). AreGathered xs new.messages) (sym ks)
-          (kept_adds.messages (kept o es)
-          (subst (AreGathered (kept o es)) (sym (adds.messages ∙ messages)) g.messages));
+          (kept_adds.messages (kept_entries o es)
+          (subst (AreGathered (kept_entries o es)) (sym (adds.messages ∙ messages)) g.messages));
       findings = subst (HasFound o (es ++ e ∷ [])) (sym (kept_adds.findings ∙ adds.findings ∙ found))
           (looks es g.findings);
       mismatch = λ checked. subst (λ (xs : List po.Entry). FirstLine HasOtherArguments xs new.mismatch) (sym ks)
-          (kept_adds.mismatch checked (kept o es) (subst (FirstLine HasOtherArguments (kept o es))
+          (kept_adds.mismatch checked (kept_entries o es) (subst (FirstLine HasOtherArguments (kept_entries o es))
           (sym (adds.mismatch ∙ mismatch)) (g.mismatch checked)));
       standings = ap (λ v. v.items) (kept_adds.standings ∙ adds.standings) ∙ pushed
           ∙ ap (λ (ss : List Standing). ss ++ s ∷ []) g.standings

@@ -11,7 +11,8 @@ use Rattle.mo_image.specs.Map.{first_form}
 use Rattle.po_checks.specs.Checks.{NoneOf, FirstAt, IsPlural, HasSystemDependentText, HasOtherCount, HasOtherNewlines}
 use Rattle.po_checks.specs.Checks as checks
 use Rattle.po_checks.specs.Found.{FirstLine, FailsFrom, HasFound}
-use Rattle.po_checks.specs.Kept.{is_header, is_kept, kept, kept_header, header_line_of, header_text_of, HasHeaderRule}
+use Rattle.po_checks.specs.Kept.{is_header, is_kept, kept_entries, kept_header, header_line_of, header_text_of}
+use Rattle.po_checks.specs.Kept.{HasHeaderRule}
 use Rattle.po_checks.specs.Fails.{RuleRefuses, HeaderRefuses, rank}
 use Rattle.po_checks.specs.declared.findings.Findings.{Findings}
 use Rattle.po_checks.specs.declared.fault.LoadKind.TheVariants.{Duplicate, Charset, SystemDependent, NoRule, BadRule}
@@ -39,12 +40,13 @@ bares es = map bare es
 
 -- ---- what is kept
 
-kept_bare : (o : Options) (es : List po.Entry) → kept o (bares es) ≡ bares (kept o es)
+kept_bare : (o : Options) (es : List po.Entry) → kept_entries o (bares es) ≡ bares (kept_entries o es)
 kept_bare o [] = refl
 kept_bare o (e ∷ es) = of (is_kept o e) (kept_bare o es)
   where
-    of : (b : Bool) → kept o (bares es) ≡ bares (kept o es) → cond b (bare e ∷ kept o (bares es)) (kept o (bares es))
-        ≡ bares (cond b (e ∷ kept o es) (kept o es))
+    of : (b : Bool) → kept_entries o (bares es) ≡ bares (kept_entries o es)
+        → cond b (bare e ∷ kept_entries o (bares es)) (kept_entries o (bares es))
+        ≡ bares (cond b (e ∷ kept_entries o es) (kept_entries o es))
     of true rest = ap (λ (ks : List po.Entry). bare e ∷ ks) rest
     of false rest = rest
 
@@ -58,7 +60,7 @@ find_bare (e ∷ es) = of (is_header e) (find_bare es)
     of false rest = rest
 
 header_bare : (o : Options) (es : List po.Entry) → kept_header o (bares es) ≡ option_map bare (kept_header o es)
-header_bare o es = ap (find is_header) (kept_bare o es) ∙ find_bare (kept o es)
+header_bare o es = ap (find is_header) (kept_bare o es) ∙ find_bare (kept_entries o es)
 
 same_line : (h : Option po.Entry) → option_map_or (λ (e : po.Entry). e.line) (option_map bare h) 0
     ≡ option_map_or (λ (e : po.Entry). e.line) h 0
@@ -88,8 +90,9 @@ twice : (es : List po.Entry) → bares (bares es) ≡ bares es
 twice [] = refl
 twice (e ∷ es) = ap (λ (ks : List po.Entry). bare e ∷ ks) (twice es)
 
-kept_same : (o : Options) (xs ys : List po.Entry) → bares xs ≡ bares ys → bares (kept o xs) ≡ bares (kept o ys)
-kept_same o xs ys same = sym (kept_bare o xs) ∙ ap (kept o) same ∙ kept_bare o ys
+kept_same : (o : Options) (xs ys : List po.Entry) → bares xs ≡ bares ys → bares (kept_entries o xs)
+    ≡ bares (kept_entries o ys)
+kept_same o xs ys same = sym (kept_bare o xs) ∙ ap (kept_entries o) same ∙ kept_bare o ys
 
 -- what holds for an entry holds for the other
 pub record IsBlind (P : po.Entry → Type 0) : Type 0 where
@@ -173,11 +176,11 @@ module _ (P : po.Entry → Type 0) (blind : IsBlind P) where
 -- ---- what was found
 
 lines_to : (P : po.Entry → Type 0) → IsBlind P → (o : Options) (es : List po.Entry) (line : Option ℕ)
-    → FirstLine P (kept o es) line → FirstLine P (kept o (bares es)) line
+    → FirstLine P (kept_entries o es) line → FirstLine P (kept_entries o (bares es)) line
 lines_to P b o es None none =
-    none_same P b (kept o es) (kept o (bares es)) (kept_same o es (bares es) (sym (twice es))) none
+    none_same P b (kept_entries o es) (kept_entries o (bares es)) (kept_same o es (bares es) (sym (twice es))) none
 lines_to P b o es (Some line) f =
-    first_same P b (kept o es) (kept o (bares es)) (kept_same o es (bares es) (sym (twice es))) line f
+    first_same P b (kept_entries o es) (kept_entries o (bares es)) (kept_same o es (bares es) (sym (twice es))) line f
 
 none_flagged : (P : po.Entry → Type 0) → ((e : po.Entry) → P (bare e) → ⊥) → (es : List po.Entry) → NoneOf P (bares es)
 none_flagged P never [] = tt
@@ -192,9 +195,9 @@ pub found_bare : (o : Options) (es : List po.Entry) (f : Findings) → HasFound 
 })
 found_bare o es f h = record {
   dependent = subst (NoneOf HasSystemDependentText) (sym (kept_bare o es))
-      (none_flagged HasSystemDependentText (λ e d. false≢true d.flagged) (kept o es));
+      (none_flagged HasSystemDependentText (λ e d. false≢true d.flagged) (kept_entries o es));
   mismatch = subst (NoneOf checks.HasOtherArguments) (sym (kept_bare o es))
-      (none_flagged checks.HasOtherArguments (λ e d. false≢true d.flagged) (kept o es));
+      (none_flagged checks.HasOtherArguments (λ e d. false≢true d.flagged) (kept_entries o es));
   newlines = λ checked. lines_to HasOtherNewlines newlines_blind o es f.newlines (h.newlines checked);
   plurals = λ checked. record {
     first = lines_to IsPlural plural_blind o es _ (h.plurals checked).first;
@@ -224,18 +227,20 @@ module _ (o : Options) (xs ys : List po.Entry) (same : bares xs ≡ bares ys) wh
       ∙ line_bare o ys in (
         rule,
         subst (λ (t : Option (List ℕ)). HasRuleIn t rule) text has,
-        subst (λ (n : ℕ). RuleRefuses rule (kept o ys) n kind line) at
-            (rule_same rule (kept o xs) (kept o ys) (kept_same o xs ys same) (header_line_of o xs) kind line r),
+        subst (λ (n : ℕ). RuleRefuses rule (kept_entries o ys) n kind line) at
+            (rule_same rule (kept_entries o xs) (kept_entries o ys) (kept_same o xs ys same) (header_line_of o xs)
+            kind line r),
       )
 
-  newlines_same : (line : ℕ) → FirstAt HasOtherNewlines (kept o xs) line → FirstAt HasOtherNewlines (kept o ys) line
+  newlines_same : (line : ℕ) → FirstAt HasOtherNewlines (kept_entries o xs) line
+      → FirstAt HasOtherNewlines (kept_entries o ys) line
   newlines_same line f =
-      first_same HasOtherNewlines newlines_blind (kept o xs) (kept o ys) (kept_same o xs ys same) line f
+      first_same HasOtherNewlines newlines_blind (kept_entries o xs) (kept_entries o ys) (kept_same o xs ys same) line f
 
 no_bare : (P : po.Entry → Type 0) → ((e : po.Entry) → P (bare e) → ⊥) → (o : Options) (es : List po.Entry) (line : ℕ)
-    → FirstAt P (kept o (bares es)) line → ⊥
-no_bare P never o es line f = Rattle.po_checks.proofs.FirstLines.first_not_none P (kept o (bares es)) line f
-    (subst (NoneOf P) (sym (kept_bare o es)) (none_flagged P never (kept o es)))
+    → FirstAt P (kept_entries o (bares es)) line → ⊥
+no_bare P never o es line f = Rattle.po_checks.proofs.FirstLines.first_not_none P (kept_entries o (bares es)) line f
+    (subst (NoneOf P) (sym (kept_bare o es)) (none_flagged P never (kept_entries o es)))
 
 -- what refuses the bare entries refuses the entries
 pub fails_back : (o : Options) (es : List po.Entry) (kind : LoadKind) (line : ℕ) → FailsFrom 11 o (bares es) kind line
@@ -257,7 +262,7 @@ fails_back o es _ line f = absurd f.1
 -- what refuses the entries refuses the bare ones, or their formats differ
 abbrev pub Either : Options → List po.Entry → LoadKind → ℕ → Type 0
 Either o es kind line = FailsFrom 11 o (bares es) kind line
-    ⊎ ((rank kind ≡ 16) × IsTrue o.checked × FirstAt HasOtherArguments (kept o es) line)
+    ⊎ ((rank kind ≡ 16) × IsTrue o.checked × FirstAt HasOtherArguments (kept_entries o es) line)
 
 pub fails_to : (o : Options) (es : List po.Entry) (kind : LoadKind) (line : ℕ) → FailsLate o es kind line
     → Either o es kind line

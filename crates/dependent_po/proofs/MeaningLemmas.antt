@@ -1,6 +1,5 @@
 -- What was gathered of a text is what the text compiles to.
-use Rattle.std.proofs.Common.{◌≡◌, ℕ, ◌<◌, ◌^◌, List, length, Option, Some, None, refl, sym, ap, ◌∙◌, subst}
-use Rattle.std.proofs.Common.{inr, arith}
+use Rattle.std.proofs.Common.{◌≡◌, ℕ, ◌<◌, ◌^◌, List, length, Option, Some, None, refl, sym, ap, ◌∙◌, subst, inr, arith}
 use Rattle.std.specs.Prelude.{Result, Ok, Err, IfErr, ◌⊎◌, if◌then◌else◌, option_map, string_bytes}
 use Rattle.std.specs.Option.{option_map_or}
 use Rattle.std.proofs.lemmas.List.{length-map}
@@ -13,10 +12,12 @@ use Rattle.po_checks.specs.Refusal.{out_of_memory}
 use Rattle.po_checks.specs.declared.fault.LoadFault.{LoadFault}
 use Rattle.mo_segments.specs.MessageStrings.{Strings, strings_of}
 use Rattle.mo_segments.specs.Flat.{AreKept}
-use Rattle.catalogue.specs.Meaning.{lacking, none_missing}
+use Rattle.catalogue.specs.Meaning.{lacking_fields, none_missing}
 use Rattle.dependent_po.specs.Counts.{standing_of, stats_by}
 use Rattle.dependent_po.specs.EntryGathering.{HasGathered, IsGatheredOf, IsLateFault, IsSoundText, Gives, Options}
-use Rattle.dependent_po.specs.Headers.{header_texts, stored_texts, IsHeaderOf, first_form, Header}
+use Rattle.mo_image.specs.Map.{first_form}
+use Rattle.po_checks.specs.Headers.{header_texts, stored_texts, IsHeaderOf}
+use Rattle.po_checks.specs.declared.header.Header.{Header}
 use Rattle.dependent_po.specs.MacroMeaning.{Means, Refuses, DependentCompiled}
 use Rattle.dependent_po.specs.SplitViews.{messages_in}
 use Rattle.dependent_po.specs.declared.gathered.Gathered.{Gathered}
@@ -79,7 +80,7 @@ pub record IsMadeOf (o : Options) (g : Gathered) (compiled : DependentCompiled) 
   pub stats : compiled.stats ≡ stats_by g.standings.items
   pub header_line : compiled.header_line ≡ option_map_or (λ (h : Header). h.line) g.header 0
   pub missing : compiled.missing
-      ≡ (if o.checked then lacking (option_map (λ (h : Header). string_bytes h.text) g.header) else none_missing)
+      ≡ (if o.checked then lacking_fields (option_map (λ (h : Header). string_bytes h.text) g.header) else none_missing)
 
 pub compiles : (text : List ℕ) (o : Options) (g : Gathered) (lent : Option (Bor (List ℕ))) (rule : Rule)
     (compiled : DependentCompiled) → IsGatheredOf text o g → option_map (λ text. text.now) lent
@@ -99,7 +100,7 @@ compiles text o g lent rule compiled h lent_is rule_is late made = record {
   };
   stats_are = made.stats ∙ ap stats_by h.has.standings ∙ stats_are h.entries;
   header_line_is = made.header_line ∙ gathered_line o h.entries g h.has;
-  missing_is = made.missing ∙ ap (λ (t : Option (List ℕ)). if o.checked then lacking t else none_missing)
+  missing_is = made.missing ∙ ap (λ (t : Option (List ℕ)). if o.checked then lacking_fields t else none_missing)
       (text_is o h.entries g h.has);
 }
 

@@ -1,7 +1,6 @@
 -- Splits that are moved, and those of forms that follow one another.
-use Rattle.std.proofs.Common.{◌≡◌, ℕ, zero, suc, ◌+◌, ◌<◌, ◌≤◌, Bool, true, false, List, [], ◌∷◌, ◌++◌, length}
-use Rattle.std.proofs.Common.{map, ◌^◌, take, get_or, Some, refl, sym, ap, ◌∙◌, subst}
-use Rattle.std.proofs.Common.{append_assoc, arith, length-append}
+use Rattle.std.proofs.Common.{◌≡◌, ℕ, zero, suc, ◌+◌, ◌<◌, ◌≤◌, Bool, true, false, List, [], ◌∷◌, ◌++◌, length, map}
+use Rattle.std.proofs.Common.{◌^◌, take, get_or, Some, refl, sym, ap, ◌∙◌, subst, append_assoc, arith, length-append}
 use Rattle.std.specs.Prelude.{slice_get, string_bytes, ◌==◌}
 use Rattle.std.specs.List.{join_with_byte}
 use Rattle.std.proofs.lemmas.List.{append-nil, map-append, take_more}
@@ -11,7 +10,7 @@ use Rattle.mo_image.proofs.Joining.{joined_step}
 use Rattle.c_macros.specs.MacroSplits.{AreWithin, IsSplitAt}
 use Rattle.c_macros.specs.declared.Side.TheVariants as side
 use Rattle.dependent_po.specs.FormAdding.{AddsForm, AddsSplits, HasTranslation, Split, Translation}
-use Rattle.dependent_po.specs.SplitMessages.{moved, AreFormSplits, AreSplitsIf}
+use Rattle.dependent_po.specs.SplitMessages.{split_behind, AreFormSplits, AreSplitsIf}
 
 -- ---- splits within a text
 
@@ -37,13 +36,13 @@ longer xs k x at = take_more xs k x (slice_get_within xs k x at)
     ∙ ap (λ y. take k xs ++ y ∷ []) (get_or_from_slice_get xs k x x at)
 
 pub moved_step : (by k : ℕ) (own : List Split) (d : Split) (start old new : List Split) → k < length own → old
-    ≡ start ++ map (moved by) (take k own) → new ≡ old ++ moved by (get_or own k d) ∷ [] → new
-    ≡ start ++ map (moved by) (take (k + 1) own)
+    ≡ start ++ map (split_behind by) (take k own) → new ≡ old ++ split_behind by (get_or own k d) ∷ [] → new
+    ≡ start ++ map (split_behind by) (take (k + 1) own)
 moved_step by k own d start old new lt so_far grown =
-    grown ∙ ap (λ (xs : List Split). xs ++ moved by (get_or own k d) ∷ []) so_far
-    ∙ append_assoc start (map (moved by) (take k own)) (moved by (get_or own k d) ∷ [])
-    ∙ ap (λ (xs : List Split). start ++ xs) (sym (map-append (moved by) (take k own) (get_or own k d ∷ []))
-    ∙ ap (map (moved by)) (sym (take_more own k d lt)))
+    grown ∙ ap (λ (xs : List Split). xs ++ split_behind by (get_or own k d) ∷ []) so_far
+    ∙ append_assoc start (map (split_behind by) (take k own)) (split_behind by (get_or own k d) ∷ [])
+    ∙ ap (λ (xs : List Split). start ++ xs) (sym (map-append (split_behind by) (take k own) (get_or own k d ∷ []))
+    ∙ ap (map (split_behind by)) (sym (take_more own k d lt)))
 
 -- ---- forms
 
@@ -56,23 +55,23 @@ joined_len (g ∷ h ∷ fs) f =
 
 splits_push : (at : ℕ) (fs : List (List ℕ)) (f : List ℕ) (splits own : List Split) (by : ℕ) → by ≡ at + forms_size fs
     → AreFormSplits at fs splits → IsSplitAt side.Translation f own
-    → AreFormSplits at (fs ++ f ∷ []) (splits ++ map (moved by) own)
+    → AreFormSplits at (fs ++ f ∷ []) (splits ++ map (split_behind by) own)
 splits_push at [] f splits own by by_is none is =
     let same : by ≡ at = omega (arith, by_is) in (
       own,
       [],
       is,
       refl,
-      ap (λ (xs : List Split). xs ++ map (moved by) own) none ∙ ap (λ (n : ℕ). map (moved n) own) same
-          ∙ sym (append-nil (map (moved at) own)),
+      ap (λ (xs : List Split). xs ++ map (split_behind by) own) none ∙ ap (λ (n : ℕ). map (split_behind n) own) same
+          ∙ sym (append-nil (map (split_behind at) own)),
     )
 splits_push at (g ∷ fs) f splits own by by_is (first, later, its, more, cut) is = (
   first,
-  later ++ map (moved by) own,
+  later ++ map (split_behind by) own,
   its,
   splits_push (at + length g + 1) fs f later own by (omega (arith, by_is)) more is,
-  ap (λ (xs : List Split). xs ++ map (moved by) own) cut
-      ∙ append_assoc (map (moved at) first) later (map (moved by) own),
+  ap (λ (xs : List Split). xs ++ map (split_behind by) own) cut
+      ∙ append_assoc (map (split_behind at) first) later (map (split_behind by) own),
 )
 
 some_splits : (looks : Bool) (fs : List (List ℕ)) (f : List ℕ) (old new : List Split) (at : ℕ) → at ≡ forms_size fs

@@ -4,14 +4,14 @@ use Rattle.std.proofs.Common.{Option, subst, cond, arith, ◌∙◌}
 use Rattle.std.specs.List.{filter, join_with_byte, AllByRecursion}
 use Rattle.std.proofs.lemmas.List.{append-nil, length-append}
 use Rattle.po_text.specs.Entries as po
-use Rattle.po_checks.specs.Kept.{kept, message_of}
+use Rattle.po_checks.specs.Kept.{kept_entries, message_of}
 use Rattle.mo_image.specs.Entry.{key_bytes, original, translation, with_plural}
 use Rattle.c_macros.specs.MacroSplits.{AreWithin}
 use Rattle.c_macros.specs.declared.Side.TheVariants as side
 use Rattle.c_macros.proofs.SplitLemmas.{split_within}
 use Rattle.mo_dependent.specs.Splits.{end_of, IsSplit, LieFrom}
 use Rattle.dependent_po.specs.MacroMeaning.{Means, Options, DependentCompiled}
-use Rattle.dependent_po.specs.SplitMessages.{front_len, moved, AreFormSplits, AreMessages, AreOriginalSplits}
+use Rattle.dependent_po.specs.SplitMessages.{front_len, split_behind, AreFormSplits, AreMessages, AreOriginalSplits}
 use Rattle.dependent_po.specs.SplitMessages.{AreSplitsIf, has_split, IsMessageOf, Message, Split}
 use Rattle.dependent_po.specs.SplitViews.{messages_in, Dependent}
 
@@ -32,21 +32,22 @@ lie_after text from middle (s ∷ own) ss (begins, some, more) lie = (
 )
 
 moved_within : (by from to : ℕ) (own : List Split) → AreWithin from own to
-    → AreWithin (by + from) (map (moved by) own) (by + to)
+    → AreWithin (by + from) (map (split_behind by) own) (by + to)
 moved_within by from to [] le = omega (arith, le)
 moved_within by from to (s ∷ own) (begins, some, more) =
     let end : by + (s.start + s.len) ≡ by + s.start + s.len = omega arith in (
       omega (arith, begins),
       some,
-      subst (λ (n : ℕ). AreWithin n (map (moved by) own) (by + to)) end
+      subst (λ (n : ℕ). AreWithin n (map (split_behind by) own) (by + to)) end
           (moved_within by (s.start + s.len) to own more),
     )
 
 -- a text's splits, moved to the place at which the text is
-placed : (at : ℕ) (own : List Split) (len : ℕ) → AreWithin 0 own len → AreWithin at (map (moved at) own) (at + len)
+placed : (at : ℕ) (own : List Split) (len : ℕ) → AreWithin 0 own len
+    → AreWithin at (map (split_behind at) own) (at + len)
 placed at own len within =
     let same : at + 0 ≡ at = omega arith in
-    subst (λ (n : ℕ). AreWithin n (map (moved at) own) (at + len)) same (moved_within at 0 len own within)
+    subst (λ (n : ℕ). AreWithin n (map (split_behind at) own) (at + len)) same (moved_within at 0 len own within)
 
 -- ---- originals
 
@@ -68,9 +69,10 @@ original_lies e ss (own, is, are) =
       plural_fits (key_bytes e.context e.id) e.plural,
     ) in
     let within = placed front own (length e.id) (split_within side.Original e.id own is) in
-    let lie : LieFrom text front (map (moved front) own ++ []) = lie_after text front (front + length e.id)
-    (map (moved front) own) [] within fits in
-    subst (LieFrom text 0) (append-nil (map (moved front) own) ∙ sym are) (lie_sooner text 0 front _ (omega arith) lie)
+    let lie : LieFrom text front (map (split_behind front) own ++ []) = lie_after text front (front + length e.id)
+    (map (split_behind front) own) [] within fits in
+    subst (LieFrom text 0) (append-nil (map (split_behind front) own) ∙ sym are)
+    (lie_sooner text 0 front _ (omega arith) lie)
 
 -- ---- translations
 
@@ -78,11 +80,11 @@ forms_lie : (text : List ℕ) (at : ℕ) (fs : List (List ℕ)) (ss : List Split
     → at + length (join_with_byte 0 fs) ≤ length text → LieFrom text at ss
 forms_lie text at [] ss none le = rw none (omega (arith, le))
 forms_lie text at (f ∷ []) ss (own, later, is, none, cut) le = rw cut (lie_after text at (at + length f)
-    (map (moved at) own) later (placed at own (length f) (split_within side.Translation f own is))
+    (map (split_behind at) own) later (placed at own (length f) (split_within side.Translation f own is))
     (rw none (omega (arith, le))))
 forms_lie text at (f ∷ g ∷ fs) ss (own, later, is, more, cut) le =
     let size = length-append f (0 ∷ join_with_byte 0 (g ∷ fs)) in
-    rw cut (lie_after text at (at + length f) (map (moved at) own) later
+    rw cut (lie_after text at (at + length f) (map (split_behind at) own) later
     (placed at own (length f) (split_within side.Translation f own is))
     (lie_sooner text (at + length f) (at + length f + 1) later (omega arith)
     (forms_lie text (at + length f + 1) (g ∷ fs) later more (omega (arith, le, size)))))
@@ -130,4 +132,4 @@ pub means_split : (text : List ℕ) (o : Options) (compiled : DependentCompiled)
 means_split text o compiled means =
     let parts = means.parts_are in
     held_lie compiled.dependents.items (subst (AllByRecursion HasPlaces) (sym parts.dependents_are)
-    (filtered_lie parts.messages (messages_lie (kept o means.entries) parts.messages parts.are)))
+    (filtered_lie parts.messages (messages_lie (kept_entries o means.entries) parts.messages parts.are)))

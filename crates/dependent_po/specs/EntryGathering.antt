@@ -6,11 +6,12 @@ pub use Rattle.po_text.specs.Outcome.{Gives}
 pub use Rattle.po_header.specs.Rule.{Rule}
 use Rattle.po_checks.specs.Found.{FirstFault, FirstLine, HasFound}
 use Rattle.po_checks.specs.Fails.{IsDuplicateAt, IsForeignAt, rank}
-use Rattle.po_checks.specs.Kept.{kept, kept_header, HasHeaderRule}
+use Rattle.po_checks.specs.Kept.{kept_entries, kept_header, HasHeaderRule}
 use Rattle.po_checks.specs.declared.fault.LoadFault.{LoadFault}
 use Rattle.dependent_po.specs.Counts.{standing_of}
 use Rattle.dependent_po.specs.Formats.{HasOtherArguments}
-pub use Rattle.dependent_po.specs.Headers.{IsHeaderOf, Options}
+pub use Rattle.po_checks.specs.Headers.{IsHeaderOf}
+pub use Rattle.po_checks.specs.declared.options.Options.{Options}
 pub use Rattle.dependent_po.specs.MacroMeaning.{Fails, LoadKind, strings_of}
 use Rattle.dependent_po.specs.SplitMessages.{Message, AreMessages, has_split, static_strings}
 use Rattle.dependent_po.specs.SplitViews.{messages_in}
@@ -34,9 +35,9 @@ AddsMessage e old new = (entries : List po.Entry) → AreGathered entries old �
 
 -- what has been gathered of these entries
 pub record HasGathered (options : Options) (entries : List po.Entry) (g : Gathered) : Type 0 where
-  pub messages : AreGathered (kept options entries) g.messages
+  pub messages : AreGathered (kept_entries options entries) g.messages
   pub findings : HasFound options entries g.findings
-  pub mismatch : IsTrue options.checked → FirstLine HasOtherArguments (kept options entries) g.mismatch
+  pub mismatch : IsTrue options.checked → FirstLine HasOtherArguments (kept_entries options entries) g.mismatch
   pub standings : g.standings.items ≡ map standing_of entries
   pub header : IsHeaderOf (kept_header options entries) g.header
 

@@ -6,5 +6,4 @@ pub mod FormAdding
 pub mod Comparing
 pub mod Late
 pub mod Counts
-pub mod Headers
 pub mod EntryGathering

@@ -6,7 +6,7 @@ use Rattle.po_text.specs.Outcome as po_outcome
 use Rattle.po_text.specs.declared.PoKind.{PoKind}
 pub use Rattle.mo_segments.specs.MessageStrings.{strings_of}
 pub use Rattle.po_checks.specs.Checks.{FirstAt}
-use Rattle.po_checks.specs.Kept.{kept, header_line_of}
+use Rattle.po_checks.specs.Kept.{kept_entries, header_line_of}
 use Rattle.po_checks.specs.Fails as plain
 use Rattle.po_checks.specs.Fails.{IsFirst}
 use Rattle.po_checks.specs.Refusal.{kind_of}
@@ -23,7 +23,7 @@ pub use Rattle.dependent_po.specs.declared.compiled.DependentCompiled.{Dependent
 abbrev pub Fails : Options → List po.Entry → LoadKind → ℕ → Type 0
 Fails options entries SystemDependent line = ⊥
 Fails options entries FormatMismatch line = IsTrue options.checked
-    × FirstAt HasOtherArguments (kept options entries) line
+    × FirstAt HasOtherArguments (kept_entries options entries) line
 Fails options entries kind line = plain.Fails options entries kind line
 
 -- ---- the text
@@ -33,7 +33,7 @@ pub record Means (text : List ℕ) (options : Options) (compiled : DependentComp
   pub entries : List po.Entry
   pub gives : po_outcome.Gives text entries
   pub passes : (kind : LoadKind) (line : ℕ) → ¬ Fails options entries kind line
-  pub parts_are : ArePartsOf (kept options entries) (strings_of compiled.statics.items)
+  pub parts_are : ArePartsOf (kept_entries options entries) (strings_of compiled.statics.items)
       (messages_in compiled.dependents.items)
   pub stats_are : compiled.stats ≡ stats_of entries
   pub header_line_is : compiled.header_line ≡ header_line_of options entries

@@ -19,8 +19,8 @@ pub record Message : Type 0 where
   pub translation_splits : List Split
 
 -- a split that is counted from a byte further in front
-abbrev pub moved : ℕ → Split → Split
-moved by split = record { start = by + split.start; len = split.len }
+abbrev pub split_behind : ℕ → Split → Split
+split_behind by split = record { start = by + split.start; len = split.len }
 
 -- the length of what precedes the msgid in a key: the context and byte 4
 abbrev pub front_len : Option (List ℕ) → ℕ
@@ -30,13 +30,13 @@ front_len (Some context) = length context + 1
 -- the splits of an original are those of the msgid; neither the context nor the msgid_plural is split
 abbrev pub AreOriginalSplits : po.Entry → List Split → Type 0
 AreOriginalSplits e splits = (own : List Split) × IsSplitAt Original e.id own
-    × (splits ≡ map (moved (front_len e.context)) own)
+    × (splits ≡ map (split_behind (front_len e.context)) own)
 
 -- the splits of forms that follow one another from a place on, with NUL between them
 abbrev pub AreFormSplits : ℕ → List (List ℕ) → List Split → Type 0
 AreFormSplits at [] splits = splits ≡ []
 AreFormSplits at (form ∷ forms) splits = (own later : List Split) × IsSplitAt Translation form own
-    × AreFormSplits (at + length form + 1) forms later × (splits ≡ map (moved at) own ++ later)
+    × AreFormSplits (at + length form + 1) forms later × (splits ≡ map (split_behind at) own ++ later)
 
 -- splits are looked for, or there are none
 abbrev pub AreSplitsIf : Bool → (List Split → Type 0) → List Split → Type 0

@@ -3,7 +3,7 @@ ghost use Rattle.std.specs.Prelude.{◌≡◌, ◌⊎◌, ℕ, List, IfOk, IfErr
 ghost use Rattle.std.specs.List.{AllByRecursion};
 ghost use Rattle.std.specs.Option.{option_map_or};
 ghost use Rattle.po_header.specs.Rules.{rule_of};
-ghost use Rattle.catalogue.specs.Meaning.{lacking, none_missing};
+ghost use Rattle.catalogue.specs.Meaning.{lacking_fields, none_missing};
 ghost use Rattle.po_checks.specs.Refusal.{out_of_memory};
 ghost use Rattle.mo_dependent.specs.Splits.{IsSplit};
 ghost use Rattle.dependent_po.specs.EntryGathering.{IsGatheredOf, IsLateFault};
@@ -14,10 +14,9 @@ use crate::compiled::DependentCompiled;
 use crate::counts::stats_of;
 use crate::front::check_front;
 use crate::gathered::{Gathered, gather};
-use crate::header::Header;
 use crate::messages::Messages;
 use mo_segments::kept;
-use po_checks::{Findings, LoadFault, LoadKind, Options};
+use po_checks::{Findings, Header, LoadFault, LoadKind, Options};
 use po_header::{RuleRead, missing_fields, rule_in};
 use std::alloc::Global;
 
@@ -44,7 +43,7 @@ fn line_of(header: &Option<Header>) -> u32
 /// Which of the eight header fields the header lacks; none unless `checked` is set and there is a header.
 fn missing_in(header: Option<&str>, options: Options) -> [bool; 8]
     ensures { result
-        ≡ (if options.checked then lacking (option_map (λ text. text.now) header.entry) else none_missing) }
+        ≡ (if options.checked then lacking_fields (option_map (λ text. text.now) header.entry) else none_missing) }
 {
     match header {
         Some(text) if options.checked => missing_fields(text),

@@ -5,7 +5,7 @@ ghost use Rattle.mo_image.specs.Entry.{original};
 ghost use Rattle.mo_segments.specs.MessageStrings.{strings_in};
 ghost use Rattle.po_checks.specs.Kept.{message_of};
 ghost use Rattle.dependent_po.specs.SplitMessages as Messages;
-ghost use Rattle.dependent_po.specs.SplitMessages.{front_len, moved, AreOriginalSplits, AreSplitsIf};
+ghost use Rattle.dependent_po.specs.SplitMessages.{front_len, split_behind, AreOriginalSplits, AreSplitsIf};
 ghost use Rattle.dependent_po.specs.SplitMessages.{IsMessageOf};
 ghost use Rattle.dependent_po.specs.SplitViews.{message_in};
 ghost use Rattle.dependent_po.specs.FormAdding.{AddsForm, HasTranslation};
@@ -52,7 +52,7 @@ fn front_len(entry: &EntryBuffer) -> usize
 /// Adds splits, each moved by this many bytes.
 fn add_moved(into: &mut Vec<Split>, own: &[Split], by: usize) -> Result<(), AllocError>
     requires { (end : ℕ) × AreWithin 0 own.now end × (by + end < 2 ^ 64) }
-    ensures { OnOk result (into.new.items ≡ into.old.items ++ map (moved by) own.now) }
+    ensures { OnOk result (into.new.items ≡ into.old.items ++ map (split_behind by) own.now) }
 {
     'splits: for split in own {
         into.push(Split {

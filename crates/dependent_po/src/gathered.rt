@@ -9,9 +9,8 @@ ghost use Rattle.dependent_po.specs.MacroMeaning.{RefusesText};
 
 use crate::counts::{Standing, standing_of};
 use crate::formats::has_other_arguments;
-use crate::header::{Header, header_of};
 use crate::messages::Messages;
-use po_checks::{Findings, LoadFault, Options, is_kept};
+use po_checks::{Findings, Header, LoadFault, Options, header_of, is_kept};
 use po_text::{EntryBuffer, open_text};
 use std::alloc::{AllocError, Global};
 

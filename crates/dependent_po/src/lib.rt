@@ -10,7 +10,6 @@ mod dependent;
 mod formats;
 mod front;
 mod gathered;
-mod header;
 mod messages;
 
 pub use c_macros::Split;

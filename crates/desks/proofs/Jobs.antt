@@ -8,12 +8,13 @@ use Rattle.catalogue.specs.declared.Options.{Options}
 use Rattle.catalogue.specs.declared.Stats.{Stats}
 use Rattle.live_loads.specs.declared.fault.StoreFault.{StoreFault}
 use Rattle.live_loads.specs.declared.fault.StoreFault.TheVariants as fault
-use Rattle.live_versions.specs.Batches.{published}
+use Rattle.live_versions.specs.Batches.{after_publish}
 use Rattle.live_versions.specs.Seen.{SeenValue}
 use Rattle.live_versions.specs.Store.{StoreValue, AddsLoad, Accepts, IsFileFault, IsRefusedFor, IsRefusedMo}
 use Rattle.desks.specs.declared.job.Accepted.{Accepted}
 use Rattle.desks.specs.declared.job.Accepted.TheVariants as accepted
-use Rattle.desks.specs.Jobs.{SourceValue, Po, Mo, JobValue, Outcome, after_publish, Brings, IsSourceFault, IsAccepted}
+use Rattle.desks.specs.Jobs.{SourceValue, Po, Mo, JobValue, Outcome, store_after_publish, Brings, IsSourceFault}
+use Rattle.desks.specs.Jobs.{IsAccepted}
 use Rattle.desks.specs.Jobs.{IsRefused, Does, DoesAll, HasDone, Stops}
 use Rattle.desks.specs.Working.{LeavesOne}
 
@@ -46,12 +47,12 @@ refused_mo s job domain locale bytes e d l is refused =
 
 -- a publish, as its clauses describe it
 pub is_published : (s t : StoreValue)
-    → t.seen ≡ record { book = s.seen.book; batches = published s.seen.batches s.pending } → t.pending ≡ []
-    → t.most ≡ s.most → t ≡ after_publish s
+    → t.seen ≡ record { book = s.seen.book; batches = after_publish s.seen.batches s.pending } → t.pending ≡ []
+    → t.most ≡ s.most → t ≡ store_after_publish s
 is_published s t seen pending most =
     let A : SeenValue → StoreValue = λ x. record { seen = x; pending = t.pending; most = t.most } in
-    let B : List _ → StoreValue = λ x. record { seen = (after_publish s).seen; pending = x; most = t.most } in
-    let C : ℕ → StoreValue = λ x. record { seen = (after_publish s).seen; pending = []; most = x } in
+    let B : List _ → StoreValue = λ x. record { seen = (store_after_publish s).seen; pending = x; most = t.most } in
+    let C : ℕ → StoreValue = λ x. record { seen = (store_after_publish s).seen; pending = []; most = x } in
     ap A seen ∙ (ap B pending ∙ ap C most)
 
 pub does_refused : (s t : StoreValue) (job : JobValue) (e : StoreFault) → e ≢ fault.Memory → IsRefused s job e → t ≡ s
@@ -110,7 +111,7 @@ pub record Playing (s : StoreValue) (jobs : List JobValue) (outcomes : List Outc
   pub most : now.most ≡ s.most
 
 -- after the first publish
-pub playing_first : (s t : StoreValue) (outcomes : List Outcome) → outcomes ≡ [] → t ≡ after_publish s
+pub playing_first : (s t : StoreValue) (outcomes : List Outcome) → outcomes ≡ [] → t ≡ store_after_publish s
     → Playing s [] outcomes t
 playing_first s t outcomes none same = record {
   done = subst (λ xs. HasDone s [] xs t) (sym none) same;
@@ -131,7 +132,7 @@ pub playing_more : (s t u : StoreValue) (jobs more : List JobValue) (job : JobVa
 playing_more s t u jobs more job os after o now one book most more_is after_is = record {
   done = subst (λ xs. HasDone s xs after u) (sym more_is) (subst (λ xs. HasDone s (jobs
       ++ job ∷ []) xs u) (sym after_is)
-      (does_all_snoc (after_publish s) t u jobs job os o now.done one));
+      (does_all_snoc (store_after_publish s) t u jobs job os o now.done one));
   none_pending = does_pending t u job o now.none_pending one;
   book = book ∙ now.book;
   most = most ∙ now.most;

@@ -11,7 +11,8 @@ use Rattle.live_loads.proofs.Refusals.{adds_one, reason_one, added_or_refused}
 use Rattle.live_loads.proofs.BytesFaults.{text_fault_one, no_text_fault, file_fault_one, no_file_fault}
 use Rattle.desks.specs.declared.job.Accepted.{Accepted}
 use Rattle.desks.specs.declared.job.Accepted.TheVariants as accepted
-use Rattle.desks.specs.Jobs.{SourceValue, Po, Mo, JobValue, Outcome, after_publish, Brings, IsSourceFault, IsAccepted}
+use Rattle.desks.specs.Jobs.{SourceValue, Po, Mo, JobValue, Outcome, store_after_publish, Brings, IsSourceFault}
+use Rattle.desks.specs.Jobs.{IsAccepted}
 use Rattle.desks.specs.Jobs.{IsRefused, Does, DoesAll}
 use Rattle.desks.specs.Laws.{HasOneEnd}
 
@@ -73,7 +74,7 @@ does_one : (s t u : StoreValue) (job : JobValue) (o p : Outcome) → Does s job 
     → (o ≡ p) × (t ≡ u)
 does_one s t u job (Ok counts) (Ok other) (l, a, is) (m, b, is') =
     let same = accepted_one s l m job counts other a b in
-    (ap (λ x. Ok x) same.0, is ∙ ap after_publish same.1 ∙ sym is')
+    (ap (λ x. Ok x) same.0, is ∙ ap store_after_publish same.1 ∙ sym is')
 does_one s t u job (Ok counts) (Err e) (l, a, is) h =
     let r = refused_parts s u job e h in
     absurd (accepted_refused s l job counts e r.0 a r.1)
@@ -100,4 +101,5 @@ does_all_one s t u (j ∷ jobs) (o ∷ os) (p ∷ ps) (b, first, rest) (c, first
     (ap (λ x. x ∷ os) one.0 ∙ ap (λ xs. p ∷ xs) others.0, others.1)
 
 pub end_one : HasOneEnd
-end_one s after other jobs outcomes others h k = does_all_one (after_publish s) after other jobs outcomes others h k
+end_one s after other jobs outcomes others h k = does_all_one (store_after_publish s) after other jobs outcomes others
+    h k

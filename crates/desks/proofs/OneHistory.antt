@@ -12,7 +12,7 @@ use Rattle.live_versions.specs.History.{Event, State, Accept, Refuse, Publish, s
 use Rattle.live_loads.specs.declared.fault.StoreFault.{StoreFault}
 use Rattle.live_loads.specs.declared.fault.StoreFault.TheVariants as fault
 use Rattle.desks.specs.declared.desk.Desk.{Desk}
-use Rattle.desks.specs.Jobs.{JobValue, Outcome, Does, DoesAll, after_publish}
+use Rattle.desks.specs.Jobs.{JobValue, Outcome, Does, DoesAll, store_after_publish}
 use Rattle.desks.specs.Desks.{IsServed}
 use Rattle.desks.specs.ServedHistory.{seen_by, queries_of, answers_of, start_of, Entry, entries, AreAnswersOf}
 use Rattle.desks.specs.ServedHistory.{without_entries, AreJobs, IsWork, HasOneHistory}
@@ -53,9 +53,9 @@ done_all seen [] (outcome ∷ outcomes) t s does = absurd does
 done_all seen (job ∷ jobs) [] t s does = absurd does
 done_all seen (job ∷ jobs) (Ok counts ∷ outcomes) t s (between, (loaded, (map, brings, adds), is), all) =
     let load : LoadValue = record { domain = job.domain; locale = job.locale; map = map } in
-    let next : between ≡ after_publish (record s { pending = s.pending ++ load ∷ [] }) = is
-    ∙ ap after_publish adds.after_is in
-    let rest : Done seen jobs outcomes t (after_publish (record s { pending = s.pending ++ load ∷ [] })) = subst
+    let next : between ≡ store_after_publish (record s { pending = s.pending ++ load ∷ [] }) = is
+    ∙ ap store_after_publish adds.after_is in
+    let rest : Done seen jobs outcomes t (store_after_publish (record s { pending = s.pending ++ load ∷ [] })) = subst
     (λ (x : StoreValue). Done seen jobs outcomes t x) next (done_all seen jobs outcomes t between all) in
     record {
       history = Accept load ∷ Publish ∷ rest.history;
@@ -159,8 +159,8 @@ work_is jobs outcomes events below are =
 pub one_history : HasOneHistory
 one_history s t jobs outcomes before after done served =
     let start = start_of s before in
-    let work : Done (seen_by before) jobs outcomes t (after_publish s) = done_all (seen_by before) jobs outcomes t
-    (after_publish s) done in
+    let work : Done (seen_by before) jobs outcomes t (store_after_publish s) = done_all (seen_by before) jobs outcomes t
+    (store_after_publish s) done in
     let events = Publish ∷ work.history in
     let runs : Runs s.most start events = (tt, work.runs) in
     let below : AreBelow 0 events = (tt, work.below) in

@@ -4,7 +4,7 @@ use Rattle.std.proofs.Common.{length, refl, sym, ap, ◌∙◌, subst, arith}
 use Rattle.std.specs.Prelude.{⊤}
 use Rattle.std.proofs.lemmas.Bool.Decides.{nat_tests}
 use Rattle.std.proofs.lemmas.List.{append-nil}
-use Rattle.live_versions.specs.Batches.{version_of, StartsWith, published}
+use Rattle.live_versions.specs.Batches.{version_of, StartsWith, after_publish}
 use Rattle.live_versions.specs.History.{Event, State, Accept, Refuse, Publish, Enter, Learn, after, state_from}
 use Rattle.live_versions.specs.History.{MayFollow, IsLegalFrom}
 use Rattle.live_loads.proofs.Joining.{begins_refl, begins_trans, begins-published}
@@ -50,7 +50,7 @@ pub level_after : (s u : State) (e : Event) → Level s u → Level (after s e) 
 level_after s u (Accept load) same = record { batches = same.batches; pending = ap (λ l. l ++ load ∷ []) same.pending }
 level_after s u Refuse same = same
 level_after s u Publish same = record {
-  batches = λ i. published (same.batches i) (same.pending i);
+  batches = λ i. after_publish (same.batches i) (same.pending i);
   pending = refl;
 }
 level_after s u (Enter reader version) same = record { batches = same.batches; pending = same.pending }

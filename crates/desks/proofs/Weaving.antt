@@ -6,9 +6,8 @@ use Rattle.std.specs.String.{string_bytes}
 use Rattle.std.proofs.lemmas.List.{append-nil}
 use Rattle.std.proofs.lemmas.Bool.Decides.{nat_tests}
 use Rattle.live_set.specs.Loads.{LoadValue}
-use Rattle.live_set.specs.Asks.{QueryValue}
-use Rattle.live_set.specs.Asks.{IsAnswer as HasText}
-use Rattle.live_versions.specs.Batches.{joined, version_of, StartsWith, published}
+use Rattle.live_set.specs.Asks.{QueryValue, IsAnswer as HasText}
+use Rattle.live_versions.specs.Batches.{joined_loads, version_of, StartsWith, after_publish}
 use Rattle.live_versions.specs.History.{Event, State, Accept, Refuse, Publish, Enter, Learn, after, state_from}
 use Rattle.live_versions.specs.History.{with_seen}
 use Rattle.live_loads.proofs.Joining.{joined-append}
@@ -23,8 +22,8 @@ use Rattle.desks.proofs.Runs.{IsBelow, AreBelow, below_more, no_entry_in, entrie
 version_front : (batches front : List (List LoadValue)) → StartsWith batches front
     → version_of front ≤ version_of batches
 version_front batches front begins =
-    let sum : version_of batches ≡ version_of front + length (joined begins.0) = ap version_of begins.1
-    ∙ (ap length (joined-append front begins.0) ∙ length-append (joined front) (joined begins.0)) in
+    let sum : version_of batches ≡ version_of front + length (joined_loads begins.0) = ap version_of begins.1
+    ∙ (ap length (joined-append front begins.0) ∙ length-append (joined_loads front) (joined_loads begins.0)) in
     omega (arith, sum)
 
 take_front : (xs ys : List LoadValue) → take (length xs) (xs ++ ys) ≡ xs
@@ -32,10 +31,10 @@ take_front [] ys = refl
 take_front (x ∷ xs) ys = ap (λ l. x ∷ l) (take_front xs ys)
 
 front_loads : (batches front : List (List LoadValue)) → StartsWith batches front
-    → take (version_of front) (joined batches) ≡ joined front
-front_loads batches front begins = ap (λ l. take (version_of front) (joined l)) begins.1
+    → take (version_of front) (joined_loads batches) ≡ joined_loads front
+front_loads batches front begins = ap (λ l. take (version_of front) (joined_loads l)) begins.1
     ∙ (ap (λ l. take (version_of front) l) (joined-append front begins.0)
-    ∙ take_front (joined front) (joined begins.0))
+    ∙ take_front (joined_loads front) (joined_loads begins.0))
 
 -- a longer beginning also has the next batch
 next_front : (end v : List (List LoadValue)) (batch : List LoadValue) (front : List (List LoadValue))
@@ -45,23 +44,23 @@ next_front end [] batch [] p q less = absurd (omega (arith, less))
 next_front end [] batch (y ∷ ys) p q less =
     let heads : batch ≡ y = cc (p.1, q.1) in
     let m : length (batch ++ []) ≡ length batch = ap length (append-nil batch) in
-    let n : length (y ++ joined ys) ≡ length y + length (joined ys) = length-append y (joined ys) in
+    let n : length (y ++ joined_loads ys) ≡ length y + length (joined_loads ys) = length-append y (joined_loads ys) in
     omega (arith, m, n, ap (length {A = LoadValue}) heads)
 next_front end (x ∷ v) batch [] p q less = absurd (omega (arith, less))
 next_front [] (x ∷ v) batch (y ∷ ys) p q less = absurd (cc (p.1))
 next_front (z ∷ end) (x ∷ v) batch (y ∷ ys) p q less =
     let heads : x ≡ y = cc (p.1, q.1) in
     let long : length x ≡ length y = ap (length {A = LoadValue}) heads in
-    let a : version_of (x ∷ v) ≡ length x + version_of v = length-append x (joined v) in
-    let b : version_of (y ∷ ys) ≡ length y + version_of ys = length-append y (joined ys) in
-    let c : length (x ++ joined (v ++ batch ∷ [])) ≡ length x + version_of (v ++ batch ∷ []) = length-append x
-    (joined (v ++ batch ∷ [])) in
+    let a : version_of (x ∷ v) ≡ length x + version_of v = length-append x (joined_loads v) in
+    let b : version_of (y ∷ ys) ≡ length y + version_of ys = length-append y (joined_loads ys) in
+    let c : length (x ++ joined_loads (v ++ batch ∷ [])) ≡ length x + version_of (v ++ batch ∷ []) = length-append x
+    (joined_loads (v ++ batch ∷ [])) in
     let rest = next_front end v batch ys (p.0, cc (p.1)) (q.0, cc (q.1)) (omega (arith, a, b, long, less)) in
     omega (arith, b, c, long, rest)
 
 published_front : (end v : List (List LoadValue)) (loads : List LoadValue) (front : List (List LoadValue))
-    → StartsWith end (published v loads) → StartsWith end front → version_of v < version_of front
-    → version_of (published v loads) ≤ version_of front
+    → StartsWith end (after_publish v loads) → StartsWith end front → version_of v < version_of front
+    → version_of (after_publish v loads) ≤ version_of front
 published_front end v [] front p q less = omega (arith, less)
 published_front end v (load ∷ loads) front p q less = next_front end v (load ∷ loads) front p q less
 
@@ -212,7 +211,8 @@ enter_all most worker s events end below begins go seen (query ∷ queries) (ans
     by_test (answer.version == version)
     (λ yes_.
     let here : answer.version ≡ version = grind (arith, nat_tests, yes_) in
-    let loads : take answer.version (joined end) ≡ joined s.batches = ap (λ n. take n (joined end)) here
+    let loads : take answer.version (joined_loads end) ≡ joined_loads s.batches =
+    ap (λ n. take n (joined_loads end)) here
     ∙ front_loads end s.batches begins in
     let is : IsAnswerOf (record { batches = s.batches; seen = seen worker }) query answer = record {
       version_is = here;

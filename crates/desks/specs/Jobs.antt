@@ -7,7 +7,7 @@ use Rattle.catalogue.specs.declared.Compiled.{Compiled}
 use Rattle.mo_file.specs.MoReading.{Mo as IsFileOf}
 use Rattle.live_loads.specs.declared.fault.StoreFault.{StoreFault}
 use Rattle.live_loads.specs.declared.fault.StoreFault.TheVariants.{Memory}
-use Rattle.live_versions.specs.Batches.{published}
+use Rattle.live_versions.specs.Batches.{after_publish}
 use Rattle.live_versions.specs.Store.{StoreValue, AddsLoad, IsTextFault, IsFileFault, IsRefusedFor}
 use Rattle.desks.specs.declared.job.Source.{Source}
 use Rattle.desks.specs.declared.job.Source.TheVariants as source
@@ -35,8 +35,12 @@ abbrev pub Outcome : Type 0
 Outcome = Result Accepted StoreFault
 
 -- the pending loads, if any, are published as one batch
-abbrev pub after_publish : StoreValue → StoreValue
-after_publish s = record s { seen = record s.seen { batches = published s.seen.batches s.pending }; pending = [] }
+abbrev pub store_after_publish : StoreValue → StoreValue
+store_after_publish s = record s {
+  seen = record s.seen { batches = after_publish s.seen.batches s.pending };
+  pending
+      = [];
+}
 
 -- the source gives this map, and its load returns this: the counts of a PO text, or the number of entries of an MO file
 abbrev pub Brings : SourceValue → Accepted → List Entry → Type 0
@@ -62,7 +66,8 @@ IsRefused s job fault = IsRefusedFor (IsSourceFault job.source) s job.domain job
 -- A job is done: its load is accepted and published as one batch, or it is refused and nothing changes. Running out of
 -- memory isn't an outcome.
 abbrev pub Does : StoreValue → JobValue → Outcome → StoreValue → Type 0
-Does s job (Ok counts) after = (loaded : StoreValue) × IsAccepted s job counts loaded × (after ≡ after_publish loaded)
+Does s job (Ok counts) after = (loaded : StoreValue) × IsAccepted s job counts loaded
+    × (after ≡ store_after_publish loaded)
 Does s job (Err Memory) after = ⊥
 Does s job (Err fault) after = IsRefused s job fault × (after ≡ s)
 
@@ -75,7 +80,7 @@ DoesAll s _ _ after = ⊥
 
 -- what was pending is published, and then every job is done
 abbrev pub HasDone : StoreValue → List JobValue → List Outcome → StoreValue → Type 0
-HasDone s jobs outcomes after = DoesAll (after_publish s) jobs outcomes after
+HasDone s jobs outcomes after = DoesAll (store_after_publish s) jobs outcomes after
 
 -- what was pending is published, a prefix of the jobs is done, and at most the load of the next one is pending
 pub record StopsWithin (s : StoreValue) (jobs : List JobValue) (after : StoreValue) : Type 0 where

@@ -4,9 +4,8 @@ use Rattle.std.specs.Prelude.{slice_index_or, Ok, Err}
 use Rattle.std.specs.List.{AllZip}
 use Rattle.std.specs.String.{string_bytes}
 use Rattle.live_set.specs.Loads.{LoadValue}
-use Rattle.live_set.specs.Asks.{QueryValue}
-use Rattle.live_set.specs.Asks.{IsAnswer as HasText}
-use Rattle.live_versions.specs.Batches.{joined, version_of}
+use Rattle.live_set.specs.Asks.{QueryValue, IsAnswer as HasText}
+use Rattle.live_versions.specs.Batches.{joined_loads, version_of}
 use Rattle.live_versions.specs.Store.{StoreValue}
 use Rattle.live_versions.specs.History.{Event, Accept, Refuse, Publish, Enter, Learn, State, after, state_from}
 use Rattle.live_versions.specs.History.{IsLegalFrom}
@@ -57,7 +56,7 @@ entries reader s (event ∷ events) = entry_in reader s event ++ entries reader 
 pub record IsAnswerOf (entry : Entry) (query : QueryValue) (answer : Answer) : Type 0 where
   pub version_is : answer.version ≡ version_of entry.batches
   pub no_less : entry.seen ≤ answer.version
-  pub text_is : HasText (joined entry.batches) query (string_bytes answer.text)
+  pub text_is : HasText (joined_loads entry.batches) query (string_bytes answer.text)
 
 -- one entry for each query and its answer, in order
 abbrev pub AreAnswersOf : List Entry → List QueryValue → List Answer → Type 0

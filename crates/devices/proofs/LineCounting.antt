@@ -1,6 +1,5 @@
 -- How many lines end, one after another.
-use Rattle.std.proofs.Common.{◌≡◌, ◌∙◌, refl, sym, ap, subst, ℕ, zero, suc, ◌+◌, ◌-◌, ◌<◌, ◌≤◌, true, false}
-use Rattle.std.proofs.Common.{List, []}
+use Rattle.std.proofs.Common.{◌≡◌, ◌∙◌, refl, sym, ap, subst, ℕ, zero, suc, ◌+◌, ◌-◌, ◌<◌, ◌≤◌, true, false, List, []}
 use Rattle.std.proofs.Common.{◌∷◌, ◌++◌, length, get_or, take, drop, arith, add-one, append_assoc, length-append}
 use Rattle.std.proofs.Common.{length-drop, inl, inr, Option, IsErrOf}
 use Rattle.std.proofs.Math.Seq.{take-add}

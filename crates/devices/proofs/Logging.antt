@@ -1,8 +1,7 @@
 -- How a log grows.
 use Rattle.std.proofs.Common.{◌≡◌, ◌∙◌, ◌⊎◌, ℕ, List, [], ◌∷◌, ◌++◌, ap, sym, subst, refl, inl, inr, append-nil}
-use Rattle.std.proofs.Common.{append_assoc}
-use Rattle.std.proofs.Common.{Some, None, Result, Ok, Err}
-use Rattle.devices.specs.Logs.{AnswersFirst, Came, Event, Gave, Gives, Grows, Log, came, given}
+use Rattle.std.proofs.Common.{append_assoc, Some, None, Result, Ok, Err}
+use Rattle.devices.specs.Logs.{AnswersFirst, Came, Event, Gave, Gives, Grows, Log, came, given_bytes}
 
 pub grows_none : (log : Log) → Grows log log []
 grows_none None = tt
@@ -22,11 +21,11 @@ came_then (Came bytes ∷ first) second = ap (λ xs. bytes ++ xs) (came_then fir
     ∙ sym (append_assoc bytes (came first) (came second))
 came_then (Gave bytes ∷ first) second = came_then first second
 
-pub given_then : (first second : List Event) → given (first ++ second) ≡ given first ++ given second
+pub given_then : (first second : List Event) → given_bytes (first ++ second) ≡ given_bytes first ++ given_bytes second
 given_then [] second = refl
 given_then (Came bytes ∷ first) second = given_then first second
 given_then (Gave bytes ∷ first) second = ap (λ xs. bytes ++ xs) (given_then first second)
-    ∙ sym (append_assoc bytes (given first) (given second))
+    ∙ sym (append_assoc bytes (given_bytes first) (given_bytes second))
 
 -- ---- the law
 
@@ -54,14 +53,15 @@ answers_none Means [] bytes after e = absurd (cc)
 answers_none Means (x ∷ before) bytes after e = absurd (cc)
 
 pub answers_then : (Means : List ℕ → List ℕ → Type 0) (first second : List Event) → AnswersFirst Means first
-    → AnswersFirst (λ c g. Means (came first ++ c) (given first ++ g)) second → AnswersFirst Means (first ++ second)
+    → AnswersFirst (λ c g. Means (came first ++ c) (given_bytes first ++ g)) second
+    → AnswersFirst Means (first ++ second)
 answers_then Means first second had more before bytes after e =
     either (splits first second before (Came bytes) after e)
   where
-    either : Splits first second before (Came bytes) after → Means (came before) (given before)
+    either : Splits first second before (Came bytes) after → Means (came before) (given_bytes before)
     either (inl h) = had before bytes h.0 h.1
     either (inr h) =
-        let P : List Event → Type 0 = λ es. Means (came es) (given es) in
+        let P : List Event → Type 0 = λ es. Means (came es) (given_bytes es) in
         subst P (sym h.1) (rw (came_then first h.0, given_then first h.0) (more h.0 bytes after h.2))
 
 -- one read
@@ -80,7 +80,8 @@ answers_write Means part (x ∷ y ∷ before) bytes after e = absurd (cc)
 -- what holds in each case of one meaning holds in those of another that it implies
 pub answers_so : (Means Other : List ℕ → List ℕ → Type 0) (events : List Event)
     → ((c g : List ℕ) → Means c g → Other c g) → AnswersFirst Means events → AnswersFirst Other events
-answers_so Means Other events so had before bytes after e = so (came before) (given before) (had before bytes after e)
+answers_so Means Other events so had before bytes after e =
+    so (came before) (given_bytes before) (had before bytes after e)
 
 -- a device without a log
 pub gives_unlogged : {T E : Type 0} (bytes : List ℕ) (result : Result T E) → Gives None None bytes result

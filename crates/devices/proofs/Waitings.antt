@@ -1,10 +1,8 @@
 -- What several reads for a line add up to.
-use Rattle.std.proofs.Common.{◌<◌}
-use Rattle.std.proofs.Common.{◌≡◌, ◌∙◌, ℕ, List, [], ◌∷◌, ◌++◌, ap, sym, subst, refl, append_assoc, length, false}
-use Rattle.std.proofs.Common.{inl, inr}
+use Rattle.std.proofs.Common.{◌<◌, ◌≡◌, ◌∙◌, ℕ, List, [], ◌∷◌, ◌++◌, ap, sym, subst, refl, append_assoc, length, false}
+use Rattle.std.proofs.Common.{inl, inr, Option, Result, Ok, Err}
 use Rattle.std.proofs.lemmas.List.{append-nil}
-use Rattle.std.proofs.Common.{Option, Result, Ok, Err}
-use Rattle.devices.specs.Logs.{Came, Grows, Log, came, given}
+use Rattle.devices.specs.Logs.{Came, Grows, Log, came, given_bytes}
 use Rattle.devices.proofs.Logging.{answers_none, answers_read, answers_so, answers_then, came_then, given_then}
 use Rattle.devices.proofs.Logging.{grows_none, grows_then}
 use Rattle.devices.specs.Incoming.{EndsLines, Incoming, LacksEnd}
@@ -52,10 +50,10 @@ behind a b c x y z from part lost had going lacks (inl logged) placed = record {
   logged = grows_then a b c had.events (Came part ∷ []) had.logged logged;
   placed = ap (λ xs. x.left ++ xs) (came_then had.events (Came part ∷ []) ∙ ap (λ xs. came had.events ++ xs)
       (append-nil part)) ∙ sym (append_assoc x.left (came had.events) part) ∙ ap (λ xs. xs ++ part) here ∙ placed;
-  silent = given_then had.events (Came part ∷ []) ∙ append-nil (given had.events) ∙ had.silent;
+  silent = given_then had.events (Came part ∷ []) ∙ append-nil (given_bytes had.events) ∙ had.silent;
   each = answers_then (StillWaits x from) had.events (Came part ∷ []) had.each (answers_read
-      (λ c g. StillWaits x from (came had.events ++ c) (given had.events ++ g)) part
-      (rw (append-nil (came had.events), append-nil (given had.events)) (record {
+      (λ c g. StillWaits x from (came had.events ++ c) (given_bytes had.events ++ g)) part
+      (rw (append-nil (came had.events), append-nil (given_bytes had.events)) (record {
         going = going;
         lacks = subst (λ xs. LacksEnd xs from (length xs)) (sym here) lacks;
         silent = had.silent;
@@ -91,16 +89,17 @@ counts_more r s a b c x y z from end n count lost adds ends fewer had more = rec
   placed = ap (λ xs. x.left ++ xs) (came_then had.events more.events)
       ∙ sym (append_assoc x.left (came had.events) (came more.events))
       ∙ ap (λ xs. xs ++ came more.events) here ∙ more.placed;
-  silent = given_then had.events more.events ∙ ap (λ g. g ++ given more.events) had.silent ∙ more.silent;
+  silent = given_then had.events more.events ∙ ap (λ g. g ++ given_bytes more.events) had.silent ∙ more.silent;
   each = answers_then (StillCounts count x from) had.events more.events had.each (answers_so (StillWaits y end)
-      (λ t g. StillCounts count x from (came had.events ++ t) (given had.events ++ g)) more.events still more.each);
+      (λ t g. StillCounts count x from (came had.events ++ t) (given_bytes had.events ++ g)) more.events still
+      more.each);
 }
   where
     here : x.left ++ came had.events ≡ y.left
     here = had.placed ∙ append-nil y.left
 
     still : (t g : List ℕ) → StillWaits y end t g
-        → StillCounts count x from (came had.events ++ t) (given had.events ++ g)
+        → StillCounts count x from (came had.events ++ t) (given_bytes had.events ++ g)
     still t g waits =
         let all : x.left ++ (came had.events ++ t) ≡ y.left ++ t = sym (append_assoc x.left (came had.events) t)
         ∙ ap (λ xs. xs ++ t) here in

@@ -43,12 +43,12 @@ abbrev pub output_seen : {W : Type 0} → (W → Option (List ℕ)) → (W → �
 output_seen contents failures writer = record { bytes = contents writer; failures = failures writer }
 
 -- a device that isn't read
-abbrev pub unread : InputSeen
-unread = record { left = None; reads = 0; failures = 0 }
+abbrev pub unread_input : InputSeen
+unread_input = record { left = None; reads = 0; failures = 0 }
 
 -- a device that isn't written
-abbrev pub unwritten : OutputSeen
-unwritten = record { bytes = None; failures = 0 }
+abbrev pub unwritten_output : OutputSeen
+unwritten_output = record { bytes = None; failures = 0 }
 
 -- all of the bytes, or the first `limit` if there are more, where they are reported
 abbrev pub IsFront : ℕ → Option (List ℕ) → List ℕ → Type 0

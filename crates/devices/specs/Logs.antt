@@ -23,10 +23,10 @@ came (Came bytes ∷ events) = bytes ++ came events
 came (Gave bytes ∷ events) = came events
 
 -- all that was given
-abbrev pub given : List Event → List ℕ
-given [] = []
-given (Came bytes ∷ events) = given events
-given (Gave bytes ∷ events) = bytes ++ given events
+abbrev pub given_bytes : List Event → List ℕ
+given_bytes [] = []
+given_bytes (Came bytes ∷ events) = given_bytes events
+given_bytes (Gave bytes ∷ events) = bytes ++ given_bytes events
 
 -- a read that failed leaves the log as it was
 abbrev pub read_events : {E : Type 0} → Result ℕ E → List ℕ → List Event
@@ -41,4 +41,4 @@ Gives old new bytes (Err fault) = Grows old new [] ⊎ ((n : ℕ) × Grows old n
 -- Before each read, what had been given was what the bytes that had come mean: no answer is due while the device waits.
 abbrev pub AnswersFirst : (List ℕ → List ℕ → Type 0) → List Event → Type 0
 AnswersFirst Means events = (before : List Event) (bytes : List ℕ) (after : List Event)
-    → events ≡ before ++ Came bytes ∷ after → Means (came before) (given before)
+    → events ≡ before ++ Came bytes ∷ after → Means (came before) (given_bytes before)

@@ -1,6 +1,6 @@
 -- Which reads are made while the end of a line is looked for.
 use Rattle.std.specs.Prelude.{◌≡◌, ◌⊎◌, ℕ, false, List, [], ◌∷◌, ◌++◌, ◌<◌, length, Result, Ok, Err}
-use Rattle.devices.specs.Logs.{AnswersFirst, Came, Event, Grows, Log, came, given}
+use Rattle.devices.specs.Logs.{AnswersFirst, Came, Event, Grows, Log, came, given_bytes}
 use Rattle.devices.specs.Incoming.{EndsLines, Incoming, LacksEnd}
 
 -- what came was put at the end of what was there, unless it was lost
@@ -40,7 +40,7 @@ pub record Waits (log log' : Log) (old new : Incoming) (lost : List ℕ) (Still 
   pub events : List Event
   pub logged : Grows log log' events
   pub placed : old.left ++ came events ≡ new.left ++ lost
-  pub silent : given events ≡ []
+  pub silent : given_bytes events ≡ []
   pub each : AnswersFirst Still events
 
 -- nothing was lost but by a fault
@@ -53,5 +53,5 @@ WaitsUntil log log' old new Still (Err _) = (lost : List ℕ) × Waits log log' 
 pub record ReadsWhile (log log' : Log) (Still : List ℕ → List ℕ → Type 0) : Type 0 where
   pub events : List Event
   pub logged : Grows log log' events
-  pub silent : given events ≡ []
+  pub silent : given_bytes events ≡ []
   pub each : AnswersFirst Still events

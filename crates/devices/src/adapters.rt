@@ -1,7 +1,7 @@
 //! The readers and writers of `std::io` as devices.
 ghost use Rattle.std.specs.Prelude.{◌≡◌, IfErr, None, OnOk, refl};
 ghost use Rattle.std.specs.Io.KnownBytes.{Appends};
-ghost use Rattle.devices.specs.Devices.{AppendsFront, unread, unwritten};
+ghost use Rattle.devices.specs.Devices.{AppendsFront, unread_input, unwritten_output};
 
 use crate::device::{Device, ReadFault, Sink, Source, WriteFault};
 use std::io;
@@ -36,7 +36,7 @@ impl<R: Read> Device for Reading<R> {
 
     ghost input = { λ r. record { left = R.remaining r.inner; reads = r.reads; failures = r.failures } };
 
-    ghost output = { λ _. unwritten };
+    ghost output = { λ _. unwritten_output };
 }
 
 impl<R: Read> Source for Reading<R> {
@@ -111,7 +111,7 @@ fn write_through<W: Write>(writer: &mut W, bytes: &[u8]) -> Result<(), WriteFaul
 impl<W: Write> Device for Writing<W> {
     ghost log = { λ _. None };
 
-    ghost input = { λ _. unread };
+    ghost input = { λ _. unread_input };
 
     ghost output = { λ w. record { bytes = W.contents w.inner; failures = w.failures } };
 }

@@ -3,8 +3,7 @@ ghost use Rattle.std.specs.Prelude.{◌≡◌, ◌⊎◌, ◌<◌, ◌≤◌, []
 ghost use Rattle.std.specs.Prelude.{drop, false, length, true, vec_len};
 ghost use Rattle.std.specs.Io.KnownBytes.{IsAtEnd};
 ghost use Rattle.devices.specs.Devices.{RisesBy};
-ghost use Rattle.devices.specs.Incoming.{HasEnd, HasEnds, EndsFewer, EndsLine, EndsLines, LacksEnd};
-ghost use Rattle.devices.specs.Incoming.{LacksLines};
+ghost use Rattle.devices.specs.Incoming.{HasEnd, HasEnds, EndsFewer, EndsLine, EndsLines, LacksEnd, LacksLines};
 ghost use Rattle.devices.specs.Arrivals.{Comes};
 ghost use Rattle.devices.specs.Waiting.{ReadsOnce, StillCounts, StillWaits, WaitsUntil};
 ghost use Rattle.devices.specs.Seeking.{AddsBytes, LosesBytes, Reads, IsKnownEnd, HasNoEnd};

@@ -8,12 +8,11 @@ use Rattle.std.proofs.lemmas.List.Folds.{list_all_at}
 use Rattle.std.proofs.lemmas.List.Elements.{Contains-append_left, Contains-append_right, Contains-push}
 use Rattle.std.proofs.lemmas.Slice.Eq.{bytes_eq-Decides}
 use Rattle.format_arguments.specs.declared.Kind.{Kind}
-use Rattle.format_arguments.specs.declared.Kind.TheVariants.{Any, Percent, Character, Text, Integer, Float}
+use Rattle.format_arguments.specs.declared.Kind.TheVariants.{Any}
 use Rattle.format_arguments.specs.declared.Strictness.TheVariants.{Same, Lenient}
-use Rattle.format_arguments.specs.Arguments.{kinds_fit, compatible, all_compatible, named_in}
+use Rattle.format_arguments.specs.Arguments.{kinds_fit, are_compatible, all_compatible, named_in}
 use Rattle.format_arguments.specs.Arguments.{Argument, HasKind, is_any, same_kind, names_same, same_name, stands_for}
-use Rattle.format_arguments.specs.Arguments.{covered}
-use Rattle.format_arguments.specs.Arguments.{named_agree}
+use Rattle.format_arguments.specs.Arguments.{are_covered, named_agree}
 
 pub all_at : {X : Type 0} (p : X → Bool) (xs : List X) (x : X) → list_all p xs ≡ true → Contains xs x → p x ≡ true
 all_at p xs x h (k, lt, e) = elim (cases_Bool (p x)) [
@@ -41,12 +40,8 @@ any_is _ h = absurd (cc h)
 
 pub kind_is : (a b : Kind) → same_kind a b ≡ true → a ≡ b
 kind_is Any Any h = refl
-kind_is Percent Percent h = refl
-kind_is Character Character h = refl
-kind_is Text Text h = refl
-kind_is Integer Integer h = refl
-kind_is Float Float h = refl
-kind_is _ _ h = absurd (cc h)
+kind_is _ Any h = cc h
+kind_is _ _ h = cc h
 
 any_or_same : (a b : Argument) → stands_for b a ≡ true → (a.kind ≡ Any) ⊎ (a.kind ≡ b.kind)
 any_or_same a b h = elim (cases_Bool (is_any a.kind)) [
@@ -54,7 +49,7 @@ any_or_same a b h = elim (cases_Bool (is_any a.kind)) [
   | inr failing ↦ inr (kind_is a.kind b.kind (rw failing at (and_parts (same_name a b) _ h).1))
 ]
 
-stand_in : (ones others : List Argument) (a : Argument) (n : List ℕ) → covered ones others ≡ true → Contains ones a
+stand_in : (ones others : List Argument) (a : Argument) (n : List ℕ) → are_covered ones others ≡ true → Contains ones a
     → a.name ≡ Some n
     → (b : Argument) × Contains others b × (b.name ≡ Some n) × ((a.kind ≡ Any) ⊎ (a.kind ≡ b.kind))
 stand_in ones others a n h c e =
@@ -63,7 +58,7 @@ stand_in ones others a n h c e =
     (r.0, r.1, name_is a.name r.0.name n (and_parts (same_name a r.0) _ r.2).0 e, any_or_same a r.0 r.2)
 
 -- where each translation's argument has a stand-in, it is of the original's kind, or Any
-fits_kind : (original translation : List Argument) (n : List ℕ) (kind : Kind) → covered translation original ≡ true
+fits_kind : (original translation : List Argument) (n : List ℕ) (kind : Kind) → are_covered translation original ≡ true
     → HasKind original n kind → (b : Argument) → Contains translation b → b.name ≡ Some n
     → (b.kind ≡ kind) ⊎ (b.kind ≡ Any)
 fits_kind original translation n kind h k b c e = go (stand_in translation original b n h c e)
@@ -77,7 +72,7 @@ fits_kind original translation n kind h k b c e = go (stand_in translation origi
     ]
 
 pub kind_kept : (original translation : List Argument) (n : List ℕ) (kind : Kind)
-    → covered original translation ≡ true → covered translation original ≡ true → HasKind original n kind
+    → are_covered original translation ≡ true → are_covered translation original ≡ true → HasKind original n kind
     → HasKind translation n kind
 kind_kept original translation n kind there back k =
     go (stand_in original translation k.argument n there k.asked_for k.named)
@@ -106,7 +101,7 @@ pub strict_kinds : (original translation : List Argument) → named_agree origin
     → (n : List ℕ) (kind : Kind) → (HasKind original n kind → HasKind translation n kind)
     × (HasKind translation n kind → HasKind original n kind)
 strict_kinds original translation h n kind =
-    let p = and_parts (covered original translation) (covered translation original) h in
+    let p = and_parts (are_covered original translation) (are_covered translation original) h in
     (kind_kept original translation n kind p.0 p.1, kind_kept translation original n kind p.1 p.0)
 
 -- ---- leniently
@@ -128,8 +123,10 @@ pub lenient_kinds : (original translation : List Argument) → named_agree origi
     → (kind ≡ Any) ⊎ ((other ≡ Any) ⊎ (kind ≡ other))
 lenient_kinds original translation h n kind other k j =
     let p = and_parts (named_in translation original) (all_compatible translation original) h in
-    let here : compatible k.argument j.argument ≡ true = all_at (λ (b : Argument). compatible k.argument b) original
-    j.argument (all_at (λ (a : Argument). list_all (λ (b : Argument). compatible a b) original) translation k.argument
+    let here : are_compatible k.argument j.argument ≡ true =
+    all_at (λ (b : Argument). are_compatible k.argument b) original
+    j.argument (all_at (λ (a : Argument). list_all (λ (b : Argument). are_compatible a b) original) translation
+    k.argument
     p.1 k.asked_for) j.asked_for in
     let same : same_name k.argument j.argument ≡ true =
     same_name_is k.argument.name j.argument.name n k.named j.named in

@@ -6,11 +6,11 @@ use Rattle.std.specs.List.{fold, list_all, list_any}
 use Rattle.std.specs.Option.{unwrap_or}
 use Rattle.std.proofs.lemmas.Bool.{cases_Bool}
 use Rattle.format_arguments.specs.declared.Kind.{Kind}
-use Rattle.format_arguments.specs.declared.Kind.TheVariants.{Any, Percent, Character, Text, Integer, Float}
+use Rattle.format_arguments.specs.declared.Kind.TheVariants.{Any}
 use Rattle.format_arguments.specs.declared.kinds.Kinds.{Kinds}
 use Rattle.format_arguments.specs.declared.index.Index.{Index}
 use Rattle.format_arguments.specs.Arguments.{Argument, kinds_fit, same_kind, is_any, names_same, same_name}
-use Rattle.format_arguments.specs.Arguments.{compatible, all_compatible, stands_for, covered, named_in}
+use Rattle.format_arguments.specs.Arguments.{are_compatible, all_compatible, stands_for, are_covered, named_in}
 use Rattle.format_arguments.specs.Indexing.{no_kinds, more, stand_for, fit, add, IsIndexOf, fit_if}
 use Rattle.format_arguments.specs.Indexing.{stand_if, compatible_in, has_stand_in, has_name}
 
@@ -45,90 +45,26 @@ or_assoc false b c = refl
 has_more : (kinds : Kinds) (k j : Kind) → stand_for (more kinds j) k
     ≡ (stand_for kinds k || (is_any k || same_kind k j))
 has_more kinds Any j = refl
-has_more kinds Percent Any = simp (or_true, or_false)
-has_more kinds Percent Percent = simp (or_true, or_false)
-has_more kinds Percent Character = simp (or_true, or_false)
-has_more kinds Percent Text = simp (or_true, or_false)
-has_more kinds Percent Integer = simp (or_true, or_false)
-has_more kinds Percent Float = simp (or_true, or_false)
-has_more kinds Character Any = simp (or_true, or_false)
-has_more kinds Character Percent = simp (or_true, or_false)
-has_more kinds Character Character = simp (or_true, or_false)
-has_more kinds Character Text = simp (or_true, or_false)
-has_more kinds Character Integer = simp (or_true, or_false)
-has_more kinds Character Float = simp (or_true, or_false)
-has_more kinds Text Any = simp (or_true, or_false)
-has_more kinds Text Percent = simp (or_true, or_false)
-has_more kinds Text Character = simp (or_true, or_false)
-has_more kinds Text Text = simp (or_true, or_false)
-has_more kinds Text Integer = simp (or_true, or_false)
-has_more kinds Text Float = simp (or_true, or_false)
-has_more kinds Integer Any = simp (or_true, or_false)
-has_more kinds Integer Percent = simp (or_true, or_false)
-has_more kinds Integer Character = simp (or_true, or_false)
-has_more kinds Integer Text = simp (or_true, or_false)
-has_more kinds Integer Integer = simp (or_true, or_false)
-has_more kinds Integer Float = simp (or_true, or_false)
-has_more kinds Float Any = simp (or_true, or_false)
-has_more kinds Float Percent = simp (or_true, or_false)
-has_more kinds Float Character = simp (or_true, or_false)
-has_more kinds Float Text = simp (or_true, or_false)
-has_more kinds Float Integer = simp (or_true, or_false)
-has_more kinds Float Float = simp (or_true, or_false)
+has_more kinds _ Any = simp (or_true, or_false)
+has_more kinds _ _ = simp (or_true, or_false)
 
 fit_more : (kinds : Kinds) (k j : Kind) → fit (more kinds j) k ≡ (fit kinds k && kinds_fit k j)
 fit_more kinds Any j = refl
-fit_more kinds Percent Any = simp (and_true, and_false)
-fit_more kinds Percent Percent = simp (and_true, and_false)
-fit_more kinds Percent Character = simp (and_true, and_false)
-fit_more kinds Percent Text = simp (and_true, and_false)
-fit_more kinds Percent Integer = simp (and_true, and_false)
-fit_more kinds Percent Float = simp (and_true, and_false)
-fit_more kinds Character Any = simp (and_true, and_false)
-fit_more kinds Character Percent = simp (and_true, and_false)
-fit_more kinds Character Character = simp (and_true, and_false)
-fit_more kinds Character Text = simp (and_true, and_false)
-fit_more kinds Character Integer = simp (and_true, and_false)
-fit_more kinds Character Float = simp (and_true, and_false)
-fit_more kinds Text Any = simp (and_true, and_false)
-fit_more kinds Text Percent = simp (and_true, and_false)
-fit_more kinds Text Character = simp (and_true, and_false)
-fit_more kinds Text Text = simp (and_true, and_false)
-fit_more kinds Text Integer = simp (and_true, and_false)
-fit_more kinds Text Float = simp (and_true, and_false)
-fit_more kinds Integer Any = simp (and_true, and_false)
-fit_more kinds Integer Percent = simp (and_true, and_false)
-fit_more kinds Integer Character = simp (and_true, and_false)
-fit_more kinds Integer Text = simp (and_true, and_false)
-fit_more kinds Integer Integer = simp (and_true, and_false)
-fit_more kinds Integer Float = simp (and_true, and_false)
-fit_more kinds Float Any = simp (and_true, and_false)
-fit_more kinds Float Percent = simp (and_true, and_false)
-fit_more kinds Float Character = simp (and_true, and_false)
-fit_more kinds Float Text = simp (and_true, and_false)
-fit_more kinds Float Integer = simp (and_true, and_false)
-fit_more kinds Float Float = simp (and_true, and_false)
+fit_more kinds _ Any = simp (and_true, and_false)
+fit_more kinds _ _ = simp (and_true, and_false)
 
 has_none : (k : Kind) → stand_for no_kinds k ≡ (false || (is_any k || false))
 has_none Any = refl
-has_none Percent = refl
-has_none Character = refl
-has_none Text = refl
-has_none Integer = refl
-has_none Float = refl
+has_none _ = refl
 
 fit_none : (k : Kind) → fit no_kinds k ≡ true
 fit_none Any = refl
-fit_none Percent = refl
-fit_none Character = refl
-fit_none Text = refl
-fit_none Integer = refl
-fit_none Float = refl
+fit_none _ = refl
 
 -- ---- one more argument
 
 fit_add : (name : List ℕ) (k : Kind) (kinds : Option Kinds) (a : Argument)
-    → fit_if k (add name kinds a) ≡ (fit_if k kinds && compatible (record { name = Some name; kind = k }) a)
+    → fit_if k (add name kinds a) ≡ (fit_if k kinds && are_compatible (record { name = Some name; kind = k }) a)
 fit_add name k kinds a = elim (cases_Bool (names_same (Some name) a.name)) [
   | inl e ↦ rw e (one kinds)
   | inr e ↦ rw e (sym (and_true (fit_if k kinds)))
@@ -148,11 +84,7 @@ stand_add name k kinds a = elim (cases_Bool (names_same (Some name) a.name)) [
   where
     none : (k : Kind) → (stand_for no_kinds k || (is_any k || same_kind k a.kind)) ≡ (is_any k || same_kind k a.kind)
     none Any = refl
-    none Percent = refl
-    none Character = refl
-    none Text = refl
-    none Integer = refl
-    none Float = refl
+    none _ = refl
 
     one : (kinds : Option Kinds) → stand_for (more (unwrap_or kinds no_kinds) a.kind) k
         ≡ (stand_if k kinds || (is_any k || same_kind k a.kind))
@@ -180,7 +112,8 @@ any_along f g p step b [] = sym (or_false (g b))
 any_along f g p step b (x ∷ xs) = any_along f g p step (f b x) xs ∙ ap (λ (c : Bool). c || list_any p xs) (step b x)
     ∙ or_assoc (g b) (p x) (list_any p xs)
 
-none_all : (k : Kind) (asked : List Argument) → list_all (compatible (record { name = None; kind = k })) asked ≡ true
+none_all : (k : Kind) (asked : List Argument) → list_all (are_compatible (record { name = None; kind = k })) asked
+    ≡ true
 none_all k [] = refl
 none_all k (a ∷ asked) = none_all k asked
 
@@ -195,10 +128,11 @@ none_named k (a ∷ asked) = none_named k asked
 
 compatible_is : (index : Index) (asked : List Argument) → IsIndexOf index asked → (name : Option (List ℕ)) (k : Kind)
     → compatible_in (record { name = name; kind = k }) index
-    ≡ list_all (compatible (record { name = name; kind = k })) asked
+    ≡ list_all (are_compatible (record { name = name; kind = k })) asked
 compatible_is index asked is None k = sym (none_all k asked)
 compatible_is index asked is (Some name) k = ap (fit_if k) (is name)
-    ∙ all_along (add name) (fit_if k) (compatible (record { name = Some name; kind = k })) (fit_add name k) None asked
+    ∙ all_along (add name) (fit_if k) (are_compatible (record { name = Some name; kind = k })) (fit_add name k) None
+    asked
 
 stand_in_is : (index : Index) (asked : List Argument) → IsIndexOf index asked → (name : Option (List ℕ)) (k : Kind)
     → has_stand_in (record { name = name; kind = k }) index
@@ -222,11 +156,11 @@ all_same p q same (x ∷ xs) = rw (same x, all_same p q same xs) refl
 pub all_compatible_is : (index : Index) (ones asked : List Argument) → IsIndexOf index asked
     → list_all (λ (one : Argument). compatible_in one index) ones ≡ all_compatible ones asked
 all_compatible_is index ones asked is = all_same (λ (one : Argument). compatible_in one index)
-    (λ (one : Argument). list_all (λ (other : Argument). compatible one other) asked)
+    (λ (one : Argument). list_all (λ (other : Argument). are_compatible one other) asked)
     (λ one. compatible_is index asked is one.name one.kind) ones
 
 pub covered_is : (index : Index) (ones asked : List Argument) → IsIndexOf index asked
-    → list_all (λ (one : Argument). has_stand_in one index) ones ≡ covered ones asked
+    → list_all (λ (one : Argument). has_stand_in one index) ones ≡ are_covered ones asked
 covered_is index ones asked is = all_same (λ (one : Argument). has_stand_in one index)
     (λ (one : Argument). list_any (λ (other : Argument). stands_for other one) asked)
     (λ one. stand_in_is index asked is one.name one.kind) ones

@@ -12,9 +12,8 @@ list_any_map p h (y ∷ ys) = ap (λ (b : Bool). p (h y) || b) (list_any_map p h
 
 pub list_all_zip : {X Y : Type 0} (p : (X × X) → Bool) (h : Y → X) (xs ys : List Y)
     → list_all p (zip (map h xs) (map h ys)) ≡ list_all (λ (pair : Y × Y). p (h pair.0, h pair.1)) (zip xs ys)
-list_all_zip p h [] ys = refl
-list_all_zip p h (x ∷ xs) [] = refl
 list_all_zip p h (x ∷ xs) (y ∷ ys) = ap (λ (b : Bool). p (h x, h y) && b) (list_all_zip p h xs ys)
+list_all_zip p h _ _ = refl
 
 pub zip_agrees : {X Y : Type 0} (p : (X × X) → Bool) (h : Y → X) (xs ys : List Y) (r : Bool) → length xs ≡ length ys → r
     ≡ list_all (λ (pair : Y × Y). p (h pair.0, h pair.1)) (zip xs ys) → r

@@ -37,16 +37,16 @@ no_mark mark text none = record {
     take_all_of : take (length text) text ≡ text
     take_all_of = take_all (length text) text (omega arith)
 
-pub to_mark : (mark : ℕ) (text : List ℕ) (place : ℕ) → IsFirstByte (is_byte mark) text (Some place)
-    → SkipsPlain mark text (mark ∷ take (length text - (place + 1)) (drop (place + 1) text))
-to_mark mark text place (first, at) =
-    let here : get_or text place 0 ≡ mark = eqb-true _ _ at in
-    let rest : drop place text ≡ mark ∷ drop (place + 1) text = drop_more text place 0 first.high
-    ∙ ap (λ (b : ℕ). b ∷ drop (place + 1) text) here in
+pub to_mark : (mark : ℕ) (text : List ℕ) (offset : ℕ) → IsFirstByte (is_byte mark) text (Some offset)
+    → SkipsPlain mark text (mark ∷ take (length text - (offset + 1)) (drop (offset + 1) text))
+to_mark mark text offset (first, at) =
+    let here : get_or text offset 0 ≡ mark = eqb-true _ _ at in
+    let rest : drop offset text ≡ mark ∷ drop (offset + 1) text = drop_more text offset 0 first.high
+    ∙ ap (λ (b : ℕ). b ∷ drop (offset + 1) text) here in
     record {
-      plain = take place text;
-      text_is = rw (take_rest text (place + 1), ← rest) (sym (take-append-drop place text));
-      no_mark = plain_before mark text place (omega (arith, first.high)) (λ k lt e. first.before k (omega arith) lt e);
+      plain = take offset text;
+      text_is = rw (take_rest text (offset + 1), ← rest) (sym (take-append-drop offset text));
+      no_mark = plain_before mark text offset (omega (arith, first.high)) (λ k lt e. first.before k (omega arith) lt e);
     }
 
 -- ---- one way to cut

@@ -1,7 +1,6 @@
 -- Arguments that a format asks for, each with a name or without one, and when those of two formats agree.
-use Rattle.std.specs.Prelude.{ℕ, Bool, true, false, not, ◌&&◌, ◌||◌, ◌==◌, if◌then◌else◌, List, Option, Some}
-use Rattle.std.specs.Prelude.{is_some, is_none, length, zip}
-use Rattle.std.specs.Prelude.{◌≡◌, ◌⊎◌, Contains}
+use Rattle.std.specs.Prelude.{ℕ, Bool, true, false, not, ◌&&◌, ◌||◌, ◌==◌, if◌then◌else◌, List, Option, Some, is_some}
+use Rattle.std.specs.Prelude.{is_none, length, zip, ◌≡◌, ◌⊎◌, Contains}
 use Rattle.std.specs.List.{list_all, list_any}
 use Rattle.std.specs.Str.{bytes_eq}
 use Rattle.format_arguments.specs.declared.Kind.{Kind}
@@ -41,12 +40,12 @@ abbrev pub same_name : Argument → Argument → Bool
 same_name one other = names_same one.name other.name
 
 -- they have different names, or one object can be both
-abbrev pub compatible : Argument → Argument → Bool
-compatible one other = not (same_name one other) || kinds_fit one.kind other.kind
+abbrev pub are_compatible : Argument → Argument → Bool
+are_compatible one other = not (same_name one other) || kinds_fit one.kind other.kind
 
 -- every argument of the one is compatible with every one of the other
 abbrev pub all_compatible : List Argument → List Argument → Bool
-all_compatible ones others = list_all (λ one. list_all (λ other. compatible one other) others) ones
+all_compatible ones others = list_all (λ one. list_all (λ other. are_compatible one other) others) ones
 
 -- ---- the arguments of one format
 
@@ -75,8 +74,8 @@ abbrev pub stands_for : Argument → Argument → Bool
 stands_for other one = same_name one other && (is_any one.kind || same_kind one.kind other.kind)
 
 -- each of the ones has another that stands for it
-abbrev pub covered : List Argument → List Argument → Bool
-covered ones others = list_all (λ one. list_any (λ other. stands_for other one) others) ones
+abbrev pub are_covered : List Argument → List Argument → Bool
+are_covered ones others = list_all (λ one. list_any (λ other. stands_for other one) others) ones
 
 -- each of the ones has another of its name
 abbrev pub named_in : List Argument → List Argument → Bool
@@ -85,7 +84,7 @@ named_in ones others = list_all (λ one. list_any (λ other. same_name one other
 -- the names are the same, and so is the kind that each has; or, leniently, the translation leaves names out, and one
 -- object can be what both ask for by a name
 abbrev pub named_agree : List Argument → List Argument → Strictness → Bool
-named_agree original translation Same = covered original translation && covered translation original
+named_agree original translation Same = are_covered original translation && are_covered translation original
 named_agree original translation Lenient =
     named_in translation original && all_compatible translation original
 

@@ -126,7 +126,7 @@ fn covered<'a>(
     ones: &[Argument<'a>],
     others: &[Argument<'a>],
 ) -> Result<bool, AllocError>
-    ensures { IfOk result (λ are. are ≡ spec.covered (map argument_view ones.now) (map argument_view others.now)) }
+    ensures { IfOk result (λ are. are ≡ spec.are_covered (map argument_view ones.now) (map argument_view others.now)) }
 {
     let index = Index::of(alloc, others)?;
     Ok(all_have_stand_ins(ones, &index))

@@ -9,6 +9,6 @@ pub fn next_directive(text: &[u8], mark: u8) -> Option<&[u8]>
     ensures { MatchOption result (SkipsPlain mark text.now [])
         (λ rest. SkipsPlain mark text.now (mark ∷ rest.now)) }
 {
-    let place = memchr(mark, text)?;
-    Some(&text[place + 1..])
+    let offset = memchr(mark, text)?;
+    Some(&text[offset + 1..])
 }

@@ -23,17 +23,17 @@ stem word =
 
 -- what the flag says of the language that it names, by what stands before `-format`: `no-X` and `impossible-X` that the
 -- texts are no formats of X, `possible-X` and `X` that they are or may be
-abbrev pub possible : List ℕ → Option (List ℕ) → Bool × List ℕ
-possible text (Some name) = (true, name)
-possible text None = (true, text)
+abbrev pub says_possible : List ℕ → Option (List ℕ) → Bool × List ℕ
+says_possible text (Some name) = (true, name)
+says_possible text None = (true, text)
 
-abbrev pub impossible : List ℕ → Option (List ℕ) → Bool × List ℕ
-impossible text (Some name) = (false, name)
-impossible text None = possible text (behind (codes "possible-") text)
+abbrev pub says_impossible : List ℕ → Option (List ℕ) → Bool × List ℕ
+says_impossible text (Some name) = (false, name)
+says_impossible text None = says_possible text (behind (codes "possible-") text)
 
 abbrev pub says_no : List ℕ → Option (List ℕ) → Bool × List ℕ
 says_no text (Some name) = (false, name)
-says_no text None = impossible text (behind (codes "impossible-") text)
+says_no text None = says_impossible text (behind (codes "impossible-") text)
 
 abbrev pub reading : List ℕ → Bool × List ℕ
 reading text = says_no text (behind (codes "no-") text)

@@ -3,13 +3,12 @@ use Rattle.std.specs.Prelude.{ℕ, List, [], ◌∷◌, Option, codes}
 use Rattle.std.specs.List.{find}
 use Rattle.std.specs.Str.{bytes_eq}
 use Rattle.format_flags.specs.declared.languages.Language.{Language}
-use Rattle.format_flags.specs.declared.languages.Language.TheVariants.{ObjectiveC, CPlusPlus, Python, PythonBrace}
-use Rattle.format_flags.specs.declared.languages.Language.TheVariants.{Java, JavaPrintf, CSharp, JavaScript}
-use Rattle.format_flags.specs.declared.languages.Language.TheVariants.{Scheme, Lisp, EmacsLisp, Librep, Rust, Go}
-use Rattle.format_flags.specs.declared.languages.Language.TheVariants.{Ruby, Shell, ShellPrintf, Awk, Lua}
-use Rattle.format_flags.specs.declared.languages.Language.TheVariants.{ObjectPascal, Modula2, D, OCaml, Smalltalk}
-use Rattle.format_flags.specs.declared.languages.Language.TheVariants.{Qt, QtPlural, Kde, KdeKuit, Boost, Tcl}
-use Rattle.format_flags.specs.declared.languages.Language.TheVariants.{Perl, PerlBrace, Php, GccInternal}
+use Rattle.format_flags.specs.declared.languages.Language.TheVariants.{ObjectiveC, CPlusPlus, Python, PythonBrace, Java}
+use Rattle.format_flags.specs.declared.languages.Language.TheVariants.{JavaPrintf, CSharp, JavaScript, Scheme, Lisp}
+use Rattle.format_flags.specs.declared.languages.Language.TheVariants.{EmacsLisp, Librep, Rust, Go, Ruby, Shell}
+use Rattle.format_flags.specs.declared.languages.Language.TheVariants.{ShellPrintf, Awk, Lua, ObjectPascal, Modula2, D}
+use Rattle.format_flags.specs.declared.languages.Language.TheVariants.{OCaml, Smalltalk, Qt, QtPlural, Kde, KdeKuit}
+use Rattle.format_flags.specs.declared.languages.Language.TheVariants.{Boost, Tcl, Perl, PerlBrace, Php, GccInternal}
 use Rattle.format_flags.specs.declared.languages.Language.TheVariants.{GfcInternal, Ycp}
 
 -- in the manual's order

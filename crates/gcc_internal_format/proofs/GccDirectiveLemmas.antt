@@ -11,12 +11,13 @@ use Rattle.numbered_arguments.specs.declared.Kind.TheVariants.{Integer, Text}
 use Rattle.numbered_arguments.specs.declared.Size.{Size}
 use Rattle.numbered_arguments.specs.declared.Size.TheVariants.{Plain}
 use Rattle.numbered_arguments.specs.declared.Request.{Request}
-use Rattle.script_formats.specs.ScriptParts.{place}
-use Rattle.script_formats.proofs.PartLemmas.{Within, some_is, behind_within, place_within}
+use Rattle.script_formats.specs.ScriptParts.{index_at}
+use Rattle.script_formats.proofs.PartLemmas.{Within, some_is, behind_within, index_within}
 use Rattle.gcc_internal_format.specs.declared.directive.Directive.{Directive}
-use Rattle.gcc_internal_format.specs.GccDirectives.{percent, request, asking, error_number, is_flag, allowed, size}
-use Rattle.gcc_internal_format.specs.GccDirectives.{asked_by, made_if, text_at, precedes, starred, precise, back}
-use Rattle.gcc_internal_format.specs.GccDirectives.{flagged, placed, is_mark, directive, DirectiveAt}
+use Rattle.gcc_internal_format.specs.GccDirectives.{percent, request, directive_asking, error_number, is_flag}
+use Rattle.gcc_internal_format.specs.GccDirectives.{are_allowed, size, asked_by, made_if, text_at, precedes, with_star}
+use Rattle.gcc_internal_format.specs.GccDirectives.{with_precision, back, with_flags, with_number, is_mark, directive}
+use Rattle.gcc_internal_format.specs.GccDirectives.{DirectiveAt}
 
 -- ---- what follows a part is no longer than the text
 
@@ -24,19 +25,19 @@ made_within : (number : Option ℕ) (rest : List ℕ) (kind : Option Kind)
     → Within Directive rest (made_if number rest kind)
 made_within number rest None q e = absurd (cc e)
 made_within number rest (Some kind) q e =
-    some_is Directive (asking None (Some (request number kind)), rest) q (length rest) e (omega arith)
+    some_is Directive (directive_asking None (Some (request number kind)), rest) q (length rest) e (omega arith)
 
 text_within : (number : Option ℕ) (precision : Option Request) (text : List ℕ)
     → Within Directive text (text_at number precision text)
 text_within number precision [] q e = absurd (cc e)
 text_within number precision (b ∷ more) q e = elim (cases_Bool (b == 115)) [
-  | inl is ↦ some_is Directive (asking precision (Some (request number Text)), more) q (length (b ∷ more))
+  | inl is ↦ some_is Directive (directive_asking precision (Some (request number Text)), more) q (length (b ∷ more))
       (rw is at e) (omega arith)
   | inr other ↦ absurd (cc (rw other at e))
 ]
 
 starred_within : (number : Option ℕ) (text : List ℕ) (found : Option (Option ℕ × List ℕ))
-    → Within (Option ℕ) text found → Within Directive text (starred number found)
+    → Within (Option ℕ) text found → Within Directive text (with_star number found)
 starred_within number text None h q e = absurd (cc e)
 starred_within number text (Some x) h q e = elim (cases_Bool (precedes x.0 number)) [
   | inl is ↦ omega (
@@ -47,10 +48,10 @@ starred_within number text (Some x) h q e = elim (cases_Bool (precedes x.0 numbe
   | inr other ↦ absurd (cc (rw other at e))
 ]
 
-precise_within : (number : Option ℕ) (text : List ℕ) → Within Directive text (precise number text)
+precise_within : (number : Option ℕ) (text : List ℕ) → Within Directive text (with_precision number text)
 precise_within number [] q e = absurd (cc e)
 precise_within number (b ∷ more) q e = elim (cases_Bool (b == 42)) [
-  | inl star ↦ omega (arith, starred_within number more (place more) (place_within more) q (rw star at e))
+  | inl star ↦ omega (arith, starred_within number more (index_at more) (index_within more) q (rw star at e))
   | inr none ↦ elim (cases_Bool (is_ascii_digit b)) [
     | inl digit ↦ omega (
       arith,
@@ -68,14 +69,14 @@ back_within number s (b ∷ more) q e = elim (cases_Bool (b == 46)) [
   | inr other ↦ omega (arith, made_within number more (asked_by b s) q (rw other at e))
 ]
 
-flagged_within : (number : Option ℕ) (flags text : List ℕ) → Within Directive text (flagged number flags text)
-flagged_within number flags text q e = elim (cases_Bool (allowed flags)) [
+flagged_within : (number : Option ℕ) (flags text : List ℕ) → Within Directive text (with_flags number flags text)
+flagged_within number flags text q e = elim (cases_Bool (are_allowed flags)) [
   | inl are ↦ back_within number (size flags) text q (rw are at e)
   | inr other ↦ absurd (cc (rw other at e))
 ]
 
 placed_within : (text : List ℕ) (found : Option (Option ℕ × List ℕ)) → Within (Option ℕ) text found
-    → Within Directive text (placed found)
+    → Within Directive text (with_number found)
 placed_within text None h q e = absurd (cc e)
 placed_within text (Some x) h q e = omega (
   arith,
@@ -87,12 +88,12 @@ placed_within text (Some x) h q e = omega (
 within : (text : List ℕ) → Within Directive text (directive text)
 within [] q e = absurd (cc e)
 within (b ∷ more) q e = elim (cases_Bool (is_mark b)) [
-  | inl mark ↦ some_is Directive (asking None None, more) q (length (b ∷ more)) (rw mark at e) (omega arith)
+  | inl mark ↦ some_is Directive (directive_asking None None, more) q (length (b ∷ more)) (rw mark at e) (omega arith)
   | inr none ↦ elim (cases_Bool (b == 109)) [
-    | inl error ↦ some_is Directive (asking None (Some error_number), more) q (length (b ∷ more))
+    | inl error ↦ some_is Directive (directive_asking None (Some error_number), more) q (length (b ∷ more))
         (rw (none, error) at e) (omega arith)
     | inr other ↦
-        placed_within (b ∷ more) (place (b ∷ more)) (place_within (b ∷ more)) q (rw (none, other) at e)
+        placed_within (b ∷ more) (index_at (b ∷ more)) (index_within (b ∷ more)) q (rw (none, other) at e)
   ]
 ]
 

@@ -1,5 +1,6 @@
 -- What directives ask for, with numbers.
-use Rattle.std.specs.Prelude.{◌≡◌, ℕ, Bool, false, not, ◌==◌, List, ◌++◌, Option, None, Some, is_none}
+pub use Rattle.script_formats.specs.Collecting.{is_next}
+use Rattle.std.specs.Prelude.{◌≡◌, ℕ, Bool, false, not, ◌==◌, List, ◌++◌, Option, None, Some}
 use Rattle.std.specs.List.{list_any}
 use Rattle.numbered_arguments.specs.declared.Request.{Request}
 use Rattle.numbered_arguments.specs.NumberedArguments.{list_of}
@@ -18,9 +19,6 @@ is_argument (Some number) = not (number == 0)
 -- a number of its own: not that of the error number
 abbrev pub is_own : Request → Bool
 is_own r = is_argument r.number
-
-abbrev pub is_next : Request → Bool
-is_next r = is_none r.number
 
 -- ---- the code's state
 

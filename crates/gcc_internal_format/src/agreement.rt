@@ -15,7 +15,7 @@ fn prints_error(asked: &[Numbered]) -> bool
 
 /// Whether both are true, or neither.
 fn same(one: bool, other: bool) -> bool
-    ensures { result ≡ spec.same one other }
+    ensures { result ≡ spec.are_same one other }
 {
     one == other
 }

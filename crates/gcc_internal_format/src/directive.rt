@@ -4,14 +4,14 @@ ghost use Rattle.std.specs.Prelude.{◌≡◌, ℕ, List, ◌∷◌, MatchOption
 ghost use Rattle.std.specs.List.{prefix_len};
 ghost use Rattle.format_arguments.specs.Bytes.{behind, run};
 ghost use Rattle.gcc_internal_format.specs.declared.directive.Directive.{Directive as Value};
-ghost use Rattle.script_formats.specs.ScriptParts.{place};
+ghost use Rattle.script_formats.specs.ScriptParts.{index_at};
 ghost use Rattle.gcc_internal_format.specs.GccDirectives as spec;
 ghost use Rattle.gcc_internal_format.specs.GccEntities as entities;
 
 use crate::entities::{Entity, stand_in};
 use byte_text::split_byte;
 use numbered_arguments::{Kind, Request, Size, skip_digits};
-use script_formats::read_place;
+use script_formats::read_index;
 
 /// What a directive asks for, in this order.
 #[derive(Clone, Copy)]
@@ -44,7 +44,7 @@ fn count(flags: &[u8], flag: u8) -> usize
 }
 
 fn are_allowed(flags: &[u8]) -> bool
-    ensures { result ≡ spec.allowed flags.now }
+    ensures { result ≡ spec.are_allowed flags.now }
 {
     count(flags, b'q') < 2
         && count(flags, b'+') < 2
@@ -150,9 +150,9 @@ fn precedes(own: Option<u32>, number: Option<u32>) -> bool
 
 /// Reads what stands behind a star.
 fn read_starred(number: Option<u32>, text: &[u8]) -> Option<(Directive, &[u8])>
-    ensures { option_map (λ found. (found.0, found.1.now)) result ≡ spec.starred number (place text.now) }
+    ensures { option_map (λ found. (found.0, found.1.now)) result ≡ spec.with_star number (index_at text.now) }
 {
-    let (own, rest) = read_place(text)?;
+    let (own, rest) = read_index(text)?;
     if !precedes(own, number) {
         return None;
     }
@@ -165,7 +165,7 @@ fn read_starred(number: Option<u32>, text: &[u8]) -> Option<(Directive, &[u8])>
 
 /// Reads what stands behind a dot.
 fn read_precise(number: Option<u32>, text: &[u8]) -> Option<(Directive, &[u8])>
-    ensures { option_map (λ found. (found.0, found.1.now)) result ≡ spec.precise number text.now }
+    ensures { option_map (λ found. (found.0, found.1.now)) result ≡ spec.with_precision number text.now }
 {
     let (first, rest) = split_byte(text)?;
     if first == b'*' {
@@ -195,9 +195,9 @@ fn read_back(number: Option<u32>, size: Size, text: &[u8]) -> Option<(Directive,
 
 /// Reads a directive that may have a number and flags.
 fn read_placed(text: &[u8]) -> Option<(Directive, &[u8])>
-    ensures { option_map (λ found. (found.0, found.1.now)) result ≡ spec.placed (place text.now) }
+    ensures { option_map (λ found. (found.0, found.1.now)) result ≡ spec.with_number (index_at text.now) }
 {
-    let (number, behind_number) = read_place(text)?;
+    let (number, behind_number) = read_index(text)?;
     let (flags, rest) = split_flags(behind_number);
     if are_allowed(flags) {
         read_back(number, size_of(flags), rest)
@@ -208,7 +208,7 @@ fn read_placed(text: &[u8]) -> Option<(Directive, &[u8])>
 
 /// A directive that takes nothing of a call.
 fn asking(argument: Option<Request>) -> Directive
-    ensures { result ≡ spec.asking None argument }
+    ensures { result ≡ spec.directive_asking None argument }
 {
     Directive {
         precision: None,

@@ -17,8 +17,8 @@ use Rattle.java_formats.specs.declared.elements.FormatType.{FormatType}
 use Rattle.java_formats.specs.declared.elements.FormatType.TheVariants.{Date, Number, Choice}
 use Rattle.java_formats.specs.JavaQuotes.{quote, open_brace, bar, at_most, len_before, inner_len, number_len}
 use Rattle.java_formats.specs.JavaQuotes.{unquoted_from}
-use Rattle.java_formats.specs.JavaElements.{behind_word, typed, type_at, with_style, styled, styled_at, format_at}
-use Rattle.java_formats.specs.JavaElements.{kind_of, numbered, element_by, element, is_number_style}
+use Rattle.java_formats.specs.JavaElements.{behind_word, with_type, type_at, with_style, behind_type, styled_at}
+use Rattle.java_formats.specs.JavaElements.{format_at, kind_of, with_number, element_by, element, is_number_style}
 use Rattle.java_formats.specs.JavaSteps.{Step, end, element_step, closed_step, braces_step, brace_step, pattern_step}
 use Rattle.java_formats.specs.JavaSteps.{behind_separator, behind_bar, part_step, number_step, choice_step, step}
 use Rattle.java_formats.specs.JavaSteps.{texts_behind, Leads}
@@ -56,7 +56,7 @@ abbrev TypeWithin : List ℕ → Option (FormatType × List ℕ) → Type 0
 TypeWithin text found = (p : FormatType × List ℕ) → found ≡ Some p → length p.1 ≤ length text
 
 typed_within : (text : List ℕ) (type : FormatType) (found : Option (List ℕ)) (others : Option (FormatType × List ℕ))
-    → RestWithin text found → TypeWithin text others → TypeWithin text (typed type found others)
+    → RestWithin text found → TypeWithin text others → TypeWithin text (with_type type found others)
 typed_within text type None others f g = g
 typed_within text type (Some rest) others f g = λ p e.
     let same : (type, rest) ≡ p = cc e in
@@ -101,7 +101,7 @@ with_style_within Choice text kind style e =
     let texts : text ≡ style = cc styles in
     omega (arith, ap length texts)
 
-styled_within : (type : FormatType) (text : List ℕ) → StyleWithin text (styled type text)
+styled_within : (type : FormatType) (text : List ℕ) → StyleWithin text (behind_type type text)
 styled_within type [] kind style e = absurd (no_style (kind_of type) kind style e)
 styled_within type (b ∷ more) kind style e = elim (cases_Bool (b == 44)) [
   | inl is ↦ omega (arith, with_style_within type more kind style (rw is at e))
@@ -123,7 +123,7 @@ ChoicesWithin text found =
     (a : Numbered) (choices : List ℕ) → found ≡ Some (a, Some choices) → length choices ≤ length text
 
 numbered_within : (text : List ℕ) (number : ℕ) (found : Option (Kind × Option (List ℕ))) → StyleWithin text found
-    → ChoicesWithin text (numbered number found)
+    → ChoicesWithin text (with_number number found)
 numbered_within text number None f a choices e = absurd (cc e)
 numbered_within text number (Some (kind, style)) f a choices e =
     let p : Numbered × Option (List ℕ) = (record { number = number; kind = kind }, style) in

@@ -1,8 +1,8 @@
 -- What stands between the braces of a format element (java.text.MessageFormat, "Patterns and Their Interpretation";
 -- java.text.DecimalFormat, "Patterns").
-use Rattle.std.specs.Prelude.{ℕ, zero, suc, Bool, true, false, not, ◌&&◌, ◌||◌, ◌==◌, nat_eq, if◌then◌else◌, List}
-use Rattle.std.specs.Prelude.{[], ◌∷◌, codes, drop, length, Option, None, Some, bytes_eq}
-use Rattle.std.specs.List.{starts_with}
+pub use Rattle.format_arguments.specs.Bytes.{behind_word}
+use Rattle.std.specs.Prelude.{ℕ, zero, suc, Bool, true, false, not, ◌&&◌, ◌||◌, ◌==◌, if◌then◌else◌, List}
+use Rattle.std.specs.Prelude.{[], ◌∷◌, codes, Option, None, Some, bytes_eq}
 use Rattle.std.specs.Char.{is_ascii_digit, is_ascii_hexdigit}
 use Rattle.format_arguments.specs.Bytes.{run, behind}
 use Rattle.numbered_arguments.specs.declared.Kind.{Kind}
@@ -46,18 +46,16 @@ is_number_style style =
 
 -- ---- "FormatType" and "FormatStyle"
 
-abbrev pub behind_word : List ℕ → List ℕ → Option (List ℕ)
-behind_word word text = if starts_with nat_eq text word then Some (drop (length word) text) else None
-
-abbrev pub typed : FormatType → Option (List ℕ) → Option (FormatType × List ℕ) → Option (FormatType × List ℕ)
-typed type None others = others
-typed type (Some rest) others = Some (type, rest)
+abbrev pub with_type : FormatType → Option (List ℕ) → Option (FormatType × List ℕ) → Option (FormatType × List ℕ)
+with_type type None others = others
+with_type type (Some rest) others = Some (type, rest)
 
 -- a comma and a type, and what follows
 abbrev pub type_at : List ℕ → Option (FormatType × List ℕ)
 type_at text =
-    typed Date (behind_word (codes ",time") text) (typed Date (behind_word (codes ",date") text)
-    (typed Number (behind_word (codes ",number") text) (typed Choice (behind_word (codes ",choice") text) None)))
+    with_type Date (behind_word (codes ",time") text) (with_type Date (behind_word (codes ",date") text)
+    (with_type Number (behind_word (codes ",number") text)
+    (with_type Choice (behind_word (codes ",choice") text) None)))
 
 abbrev pub kind_of : FormatType → Kind
 kind_of Date = kinds.Date
@@ -70,13 +68,13 @@ with_style Number style = if is_number_style style then Some (kinds.Number, None
 with_style Choice style = Some (kinds.Number, Some style)
 
 -- behind a type: nothing, or a comma and a style
-abbrev pub styled : FormatType → List ℕ → Option (Kind × Option (List ℕ))
-styled type [] = Some (kind_of type, None)
-styled type (b ∷ style) = if b == 44 then with_style type style else None
+abbrev pub behind_type : FormatType → List ℕ → Option (Kind × Option (List ℕ))
+behind_type type [] = Some (kind_of type, None)
+behind_type type (b ∷ style) = if b == 44 then with_style type style else None
 
 abbrev pub styled_at : Option (FormatType × List ℕ) → Option (Kind × Option (List ℕ))
 styled_at None = None
-styled_at (Some found) = styled found.0 found.1
+styled_at (Some found) = behind_type found.0 found.1
 
 -- behind the number: nothing, or a type, maybe with a style
 abbrev pub format_at : List ℕ → Option (Kind × Option (List ℕ))
@@ -85,13 +83,13 @@ format_at (b ∷ more) = styled_at (type_at (b ∷ more))
 
 -- ---- elements
 
-abbrev pub numbered : ℕ → Option (Kind × Option (List ℕ)) → Option (Numbered × Option (List ℕ))
-numbered number None = None
-numbered number (Some found) = Some (record { number = number; kind = found.0 }, found.1)
+abbrev pub with_number : ℕ → Option (Kind × Option (List ℕ)) → Option (Numbered × Option (List ℕ))
+with_number number None = None
+with_number number (Some found) = Some (record { number = number; kind = found.0 }, found.1)
 
 abbrev pub element_by : List ℕ → List ℕ → Option (Numbered × Option (List ℕ))
 element_by [] rest = None
-element_by (digit ∷ digits) rest = numbered (number_of (digit ∷ digits)) (format_at rest)
+element_by (digit ∷ digits) rest = with_number (number_of (digit ∷ digits)) (format_at rest)
 
 -- the argument that an element takes, and its choices, if it has any
 abbrev pub element : List ℕ → Option (Numbered × Option (List ℕ))

@@ -7,7 +7,7 @@ use Rattle.numbered_arguments.specs.declared.Numbered.{Numbered}
 use Rattle.numbered_arguments.specs.NumberedArguments.{is_consistent}
 use Rattle.java_formats.specs.declared.Sort.TheVariants.{Pattern}
 use Rattle.java_formats.specs.JavaSteps.{Step, Leads}
-use Rattle.java_formats.specs.JavaKinds.{specific, settled}
+use Rattle.java_formats.specs.JavaKinds.{specific_arguments, settled_kinds}
 
 abbrev pub list_of : Option Numbered → List Numbered
 list_of None = []
@@ -21,7 +21,7 @@ asked_in steps = flat_map (λ s. list_of s.asked) steps
 abbrev pub HasSignature : List ℕ → List Numbered → Type 0
 HasSignature text asked =
     (steps : List Step) × Leads ((Pattern, text) ∷ []) steps []
-    × (is_consistent (specific (asked_in steps)) ≡ true) × (asked ≡ settled (asked_in steps))
+    × (is_consistent (specific_arguments (asked_in steps)) ≡ true) × (asked ≡ settled_kinds (asked_in steps))
 
 -- the text has this fault; Memory says nothing about the text
 abbrev pub HasFault : List ℕ → FormatFault → Type 0

@@ -1,25 +1,11 @@
 -- What a `'` quotes, and how far a part of a pattern goes (java.text.MessageFormat, "Patterns and Their
 -- Interpretation"; java.text.ChoiceFormat, "Patterns").
+pub use Rattle.byte_text.specs.Characters.{apostrophe as quote, open_brace, close_brace, bar, backslash}
 use Rattle.std.specs.Prelude.{ℕ, ◌+◌, ◌-◌, Bool, true, false, not, ◌&&◌, ◌||◌, ◌==◌, nat_eq, if◌then◌else◌, List}
 use Rattle.std.specs.Prelude.{[], ◌∷◌, codes}
 use Rattle.std.specs.List.{list_any, starts_with}
 use Rattle.java_formats.specs.declared.Sort.{Sort}
 use Rattle.java_formats.specs.declared.Sort.TheVariants.{Pattern, Choices}
-
-abbrev pub quote : ℕ
-quote = 39
-
-abbrev pub open_brace : ℕ
-open_brace = 123
-
-abbrev pub close_brace : ℕ
-close_brace = 125
-
-abbrev pub bar : ℕ
-bar = 124
-
-abbrev pub backslash : ℕ
-backslash = 92
 
 -- what ends the plain text of a pattern, and a choice
 abbrev pub is_mark : Sort → ℕ → Bool
@@ -68,5 +54,5 @@ unquoted_from kept [] = []
 unquoted_from kept (b ∷ more) =
     if b == quote && not kept then unquoted_from true more else b ∷ unquoted_from false more
 
-abbrev pub unquoted : List ℕ → List ℕ
-unquoted text = unquoted_from false text
+abbrev pub unquoted_text : List ℕ → List ℕ
+unquoted_text text = unquoted_from false text

@@ -17,9 +17,9 @@ step_view s = record {
 }
 
 -- the texts that wait, the last one first
-abbrev pub waiting : List code_text.Text → List (Sort × List ℕ)
-waiting [] = []
-waiting (text ∷ more) = waiting more ++ (text.sort, text.bytes.items) ∷ []
+abbrev pub waiting_texts : List code_text.Text → List (Sort × List ℕ)
+waiting_texts [] = []
+waiting_texts (text ∷ more) = waiting_texts more ++ (text.sort, text.bytes.items) ∷ []
 
 -- each text counts one more than its bytes
 abbrev pub weight : List (Sort × List ℕ) → ℕ
@@ -29,7 +29,7 @@ weight (text ∷ more) = 1 + length text.1 + weight more
 -- steps lead from the texts to those that wait now, and what they take was added
 abbrev pub Reads : List (Sort × List ℕ) → Found → Found → Type 0
 Reads texts old new =
-    (steps : List Step) × Leads texts steps (waiting new.pending.items)
+    (steps : List Step) × Leads texts steps (waiting_texts new.pending.items)
     × (new.asked.items ≡ old.asked.items ++ asked_in steps)
 
 -- no steps lead through the texts; Memory says nothing about them

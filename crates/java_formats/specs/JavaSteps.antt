@@ -1,11 +1,10 @@
 -- The elements of patterns and the patterns of choices, one by one (java.text.MessageFormat, "Patterns and Their
 -- Interpretation"; java.text.ChoiceFormat, "Patterns").
-use Rattle.std.specs.Prelude.{◌≡◌, ℕ, false, ◌==◌, if◌then◌else◌, List, [], ◌∷◌, ◌++◌, take, drop}
-use Rattle.std.specs.Prelude.{Option, None, Some}
+use Rattle.std.specs.Prelude.{◌≡◌, ℕ, false, ◌==◌, if◌then◌else◌, List, [], ◌∷◌, ◌++◌, take, drop, Option, None, Some}
 use Rattle.numbered_arguments.specs.declared.Numbered.{Numbered}
 use Rattle.java_formats.specs.declared.Sort.{Sort}
 use Rattle.java_formats.specs.declared.Sort.TheVariants.{Pattern, Choices}
-use Rattle.java_formats.specs.JavaQuotes.{open_brace, bar, at_most, len_before, inner_len, number_len, unquoted}
+use Rattle.java_formats.specs.JavaQuotes.{open_brace, bar, at_most, len_before, inner_len, number_len, unquoted_text}
 use Rattle.java_formats.specs.JavaElements.{element, behind_word}
 
 -- what comes next in a text: the argument that it takes, the text nested in it, and what follows; at the end nothing
@@ -77,7 +76,7 @@ step Choices text = choice_step text
 -- the choices of an element are as they stand there, and the pattern of a choice is so without its quotes
 abbrev pub nested_in : Sort → List ℕ → Sort × List ℕ
 nested_in Pattern choices = (Choices, choices)
-nested_in Choices pattern = (Pattern, unquoted pattern)
+nested_in Choices pattern = (Pattern, unquoted_text pattern)
 
 abbrev pub rest_texts : Sort → Option (List ℕ) → List (Sort × List ℕ)
 rest_texts sort None = []

@@ -70,7 +70,7 @@ fn with_style(format_type: FormatType, style: &[u8]) -> Option<(Kind, Option<&[u
 /// Reads what stands behind a type: nothing, or a comma and a style.
 fn read_style(format_type: FormatType, text: &[u8]) -> Option<(Kind, Option<&[u8]>)>
     ensures { option_map (λ found. (found.0, option_map (λ text. text.now) found.1)) result
-        ≡ spec.styled format_type text.now }
+        ≡ spec.behind_type format_type text.now }
 {
     match split_byte(text) {
         None => Some((kind_of(format_type), None)),

@@ -15,7 +15,7 @@ fn is_specific(argument: Numbered) -> bool
 
 /// Those that are taken as more than an object.
 pub(crate) fn specific(alloc: Global, asked: &[Numbered]) -> Result<Vec<Numbered>, AllocError>
-    ensures { IfOk result (λ found. found.items ≡ spec.specific asked.now) }
+    ensures { IfOk result (λ found. found.items ≡ spec.specific_arguments asked.now) }
 {
     let mut found = Vec::new(alloc);
     'asked: for argument in asked {
@@ -71,8 +71,8 @@ pub(crate) fn settled(
     specific: &[Numbered],
     asked: &[Numbered],
 ) -> Result<Vec<Numbered>, AllocError>
-    requires { specific.now ≡ spec.specific asked.now }
-    ensures { IfOk result (λ found. found.items ≡ spec.settled asked.now) }
+    requires { specific.now ≡ spec.specific_arguments asked.now }
+    ensures { IfOk result (λ found. found.items ≡ spec.settled_kinds asked.now) }
 {
     let known = Index::of(alloc, specific)?;
     settled_all(alloc, &known, asked)

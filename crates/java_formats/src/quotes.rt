@@ -98,7 +98,7 @@ pub(crate) fn number_len(text: &[u8]) -> usize
 
 /// The text without its quotes: each `'` is left out, and the byte behind it stays.
 pub(crate) fn unquoted(alloc: Global, text: &[u8]) -> Result<Vec<u8>, AllocError>
-    ensures { IfOk result (λ plain. plain.items ≡ spec.unquoted text.now) }
+    ensures { IfOk result (λ plain. plain.items ≡ spec.unquoted_text text.now) }
 {
     let mut plain = Vec::new(alloc);
     let mut kept = false;

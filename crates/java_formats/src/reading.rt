@@ -69,8 +69,8 @@ fn add_pending(
     sort: Sort,
     nested: Option<&[u8]>,
 ) -> Result<(), AllocError>
-    ensures { OnOk result (spec.waiting pending.new.items
-        ≡ nested_texts sort (option_map (λ text. text.now) nested.entry) ++ spec.waiting pending.old.items) }
+    ensures { OnOk result (spec.waiting_texts pending.new.items
+        ≡ nested_texts sort (option_map (λ text. text.now) nested.entry) ++ spec.waiting_texts pending.old.items) }
 {
     if let Some(nested) = nested {
         pending.push(nested_text(alloc, sort, nested)?)?;
@@ -82,8 +82,8 @@ impl Found {
     /// Adds what a step in a text of this sort takes, and what is nested in it.
     fn add(&mut self, alloc: Global, sort: Sort, step: Step<'_>) -> Result<(), AllocError>
         ensures asked { OnOk result (self.new.asked.items ≡ self.old.asked.items ++ list_of step.entry.asked) }
-        ensures pending { OnOk result (spec.waiting self.new.pending.items
-            ≡ nested_texts sort (spec.step_view step.entry).nested ++ spec.waiting self.old.pending.items) }
+        ensures pending { OnOk result (spec.waiting_texts self.new.pending.items
+            ≡ nested_texts sort (spec.step_view step.entry).nested ++ spec.waiting_texts self.old.pending.items) }
     {
         add_asked(&mut self.asked, step.asked)?;
         add_pending(&mut self.pending, alloc, sort, step.nested)
@@ -91,12 +91,12 @@ impl Found {
 
     /// Reads a text to its end.
     pub(crate) fn read(&mut self, alloc: Global, sort: Sort, text: &[u8]) -> Result<(), FormatFault>
-        ensures ok { OnOk result (spec.Reads ((sort, text.now) ∷ spec.waiting self.old.pending.items)
+        ensures ok { OnOk result (spec.Reads ((sort, text.now) ∷ spec.waiting_texts self.old.pending.items)
             self.old self.new) }
-        ensures lighter { OnOk result (spec.weight (spec.waiting self.new.pending.items)
-            < spec.weight ((sort, text.now) ∷ spec.waiting self.old.pending.items)) }
+        ensures lighter { OnOk result (spec.weight (spec.waiting_texts self.new.pending.items)
+            < spec.weight ((sort, text.now) ∷ spec.waiting_texts self.old.pending.items)) }
         ensures err { IfErr result (λ fault.
-            spec.Blocks ((sort, text.now) ∷ spec.waiting self.old.pending.items) fault) }
+            spec.Blocks ((sort, text.now) ∷ spec.waiting_texts self.old.pending.items) fault) }
     {
         let mut rest = Some(text);
         'steps: while let Some(text) = rest {

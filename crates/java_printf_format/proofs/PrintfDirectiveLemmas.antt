@@ -11,14 +11,15 @@ use Rattle.format_arguments.specs.Text.{AreDirectives}
 use Rattle.numbered_arguments.specs.NumberedArguments.{number_of}
 use Rattle.java_printf_format.specs.declared.conversions.Conversion.{Conversion}
 use Rattle.java_printf_format.specs.declared.conversions.Conversion.TheVariants.{Date}
-use Rattle.java_printf_format.specs.declared.directive.Place.{Place}
-use Rattle.java_printf_format.specs.declared.directive.Place.TheVariants.{Own}
+use Rattle.java_printf_format.specs.declared.directive.Which.{Which}
+use Rattle.java_printf_format.specs.declared.directive.Which.TheVariants.{Own}
 use Rattle.java_printf_format.specs.declared.directive.Directive.{Directive}
 use Rattle.java_printf_format.specs.PrintfConversions.{is_one_of, conversion_of, is_suffix, with_rest, date_at}
 use Rattle.java_printf_format.specs.PrintfConversions.{conversion_at, kind_of, accepts}
-use Rattle.java_printf_format.specs.PrintfDirectives.{percent, dollar, less, dot, relative, explicit, place_by, place}
-use Rattle.java_printf_format.specs.PrintfDirectives.{is_flag, has_digits, precision, made, converted, widened, back}
-use Rattle.java_printf_format.specs.PrintfDirectives.{back_of, directive, DirectiveAt}
+use Rattle.java_printf_format.specs.PrintfDirectives.{percent, dollar, less, dot, which_relative, which_explicit}
+use Rattle.java_printf_format.specs.PrintfDirectives.{which_by, which, is_flag, has_digits, precision, directive_from}
+use Rattle.java_printf_format.specs.PrintfDirectives.{behind_precision, behind_width, back, back_of, directive}
+use Rattle.java_printf_format.specs.PrintfDirectives.{DirectiveAt}
 
 -- what follows is no longer than the text
 abbrev Within : (A : Type 0) → List ℕ → Option (A × List ℕ) → Type 0
@@ -52,31 +53,31 @@ conversion_within (b ∷ more) p e = elim (cases_Bool (is_one_of (codes "tT") b)
   | inr other ↦ omega (arith, rest_within more (conversion_of b) p (rw other at e))
 ]
 
--- ---- places
+-- ---- which argument
 
-relative_within : (text : List ℕ) → length (relative text).1 ≤ length text
+relative_within : (text : List ℕ) → length (which_relative text).1 ≤ length text
 relative_within [] = omega arith
 relative_within (b ∷ more) = elim (cases_Bool (b == less)) [
   | inl e ↦ rw e (omega arith)
   | inr e ↦ rw e (omega arith)
 ]
 
-explicit_within : (number : ℕ) (rest : List ℕ) → Within Place rest (explicit number rest)
+explicit_within : (number : ℕ) (rest : List ℕ) → Within Which rest (which_explicit number rest)
 explicit_within number rest p e = elim (cases_Bool (number == 0)) [
   | inl none ↦ absurd (cc (rw none at e))
-  | inr other ↦ some_is Place (Own number, rest) p (length rest) (rw other at e) (omega arith)
+  | inr other ↦ some_is Which (Own number, rest) p (length rest) (rw other at e) (omega arith)
 ]
 
-place_by_within : (text : List ℕ) (number : ℕ) (rest : List ℕ) → length rest ≤ length text
-    → Within Place text (place_by text number rest)
-place_by_within text number [] le p e = some_is Place (relative text) p (length text) e (relative_within text)
-place_by_within text number (b ∷ more) le p e = elim (cases_Bool (b == dollar)) [
+which_by_within : (text : List ℕ) (number : ℕ) (rest : List ℕ) → length rest ≤ length text
+    → Within Which text (which_by text number rest)
+which_by_within text number [] le p e = some_is Which (which_relative text) p (length text) e (relative_within text)
+which_by_within text number (b ∷ more) le p e = elim (cases_Bool (b == dollar)) [
   | inl is ↦ omega (arith, le, explicit_within number more p (rw is at e))
-  | inr other ↦ some_is Place (relative text) p (length text) (rw other at e) (relative_within text)
+  | inr other ↦ some_is Which (which_relative text) p (length text) (rw other at e) (relative_within text)
 ]
 
-place_within : (text : List ℕ) → Within Place text (place text)
-place_within text = place_by_within text (number_of (run is_ascii_digit text)) (behind is_ascii_digit text)
+which_within : (text : List ℕ) → Within Which text (which text)
+which_within text = which_by_within text (number_of (run is_ascii_digit text)) (behind is_ascii_digit text)
     (behind_within is_ascii_digit text)
 
 -- ---- directives
@@ -92,17 +93,17 @@ precision_within (b ∷ more) p e = elim (cases_Bool (b == dot)) [
   | inr other ↦ some_is Bool (false, b ∷ more) p (length (b ∷ more)) (rw other at e) (omega arith)
 ]
 
-made_within : (at : Place) (flags : List ℕ) (w p : Bool) (text : List ℕ) (found : Option (Conversion × List ℕ))
-    → Within Conversion text found → Within Directive text (made at flags w p found)
+made_within : (at : Which) (flags : List ℕ) (w p : Bool) (text : List ℕ) (found : Option (Conversion × List ℕ))
+    → Within Conversion text found → Within Directive text (directive_from at flags w p found)
 made_within at flags w p text None h q e = absurd (cc e)
 made_within at flags w p text (Some x) h q e = elim (cases_Bool (accepts x.0 flags w p)) [
-  | inl is ↦ some_is Directive (record { place = at; kind = kind_of x.0 }, x.1) q (length text) (rw is at e)
+  | inl is ↦ some_is Directive (record { which = at; kind = kind_of x.0 }, x.1) q (length text) (rw is at e)
       (h x refl)
   | inr other ↦ absurd (cc (rw other at e))
 ]
 
-converted_within : (at : Place) (flags : List ℕ) (w : Bool) (text : List ℕ) (found : Option (Bool × List ℕ))
-    → Within Bool text found → Within Directive text (converted at flags w found)
+converted_within : (at : Which) (flags : List ℕ) (w : Bool) (text : List ℕ) (found : Option (Bool × List ℕ))
+    → Within Bool text found → Within Directive text (behind_precision at flags w found)
 converted_within at flags w text None h q e = absurd (cc e)
 converted_within at flags w text (Some x) h q e = omega (
   arith,
@@ -110,7 +111,7 @@ converted_within at flags w text (Some x) h q e = omega (
   made_within at flags w x.0 x.1 (conversion_at x.1) (conversion_within x.1) q e,
 )
 
-widened_within : (at : Place) (flags text : List ℕ) → Within Directive text (widened at flags text)
+widened_within : (at : Which) (flags text : List ℕ) → Within Directive text (behind_width at flags text)
 widened_within at flags text q e =
     let wide = behind is_ascii_digit text in
     omega (
@@ -119,20 +120,20 @@ widened_within at flags text q e =
       converted_within at flags (has_digits text) wide (precision wide) (precision_within wide) q e,
     )
 
-back_within : (at : Place) (text : List ℕ) → Within Directive text (back at text)
+back_within : (at : Which) (text : List ℕ) → Within Directive text (back at text)
 back_within at text q e = omega (
   arith,
   behind_within is_flag text,
   widened_within at (run is_flag text) (behind is_flag text) q e,
 )
 
-back_of_within : (text : List ℕ) (found : Option (Place × List ℕ)) → Within Place text found
+back_of_within : (text : List ℕ) (found : Option (Which × List ℕ)) → Within Which text found
     → Within Directive text (back_of found)
 back_of_within text None h q e = absurd (cc e)
 back_of_within text (Some x) h q e = omega (arith, h x refl, back_within x.0 x.1 q e)
 
 directive_within : (text : List ℕ) → Within Directive text (directive text)
-directive_within text = back_of_within text (place text) (place_within text)
+directive_within text = back_of_within text (which text) (which_within text)
 
 -- ---- what holds of the directives of each language
 

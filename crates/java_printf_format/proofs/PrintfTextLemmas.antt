@@ -1,6 +1,5 @@
 -- A text, read directive by directive.
-use Rattle.std.proofs.Common.{◌≡◌, ℕ, true, false, List, [], ◌∷◌, ◌++◌, Option, None, Some, refl, sym, ap}
-use Rattle.std.proofs.Common.{◌∙◌}
+use Rattle.std.proofs.Common.{◌≡◌, ℕ, true, false, List, [], ◌∷◌, ◌++◌, Option, None, Some, refl, sym, ap, ◌∙◌}
 use Rattle.std.specs.List.{fold, flat_map}
 use Rattle.format_arguments.specs.declared.FormatFault.{FormatFault}
 use Rattle.format_arguments.specs.declared.FormatFault.TheVariants.{Invalid, Memory}

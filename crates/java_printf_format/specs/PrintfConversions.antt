@@ -1,17 +1,15 @@
 -- Conversions of java.util.Formatter, and what may stand before each (GNU gettext manual, "Java Format Strings";
 -- java.util.Formatter, "Conversions", "Flags", "Width" and "Precision").
+pub use Rattle.format_arguments.specs.Bytes.{is_one_of}
 use Rattle.std.specs.Prelude.{ℕ, Bool, true, false, not, ◌&&◌, ◌||◌, ◌==◌, if◌then◌else◌, List, [], ◌∷◌}
 use Rattle.std.specs.Prelude.{Option, None, Some, codes}
-use Rattle.std.specs.List.{list_any, list_all}
+use Rattle.std.specs.List.{list_all}
 use Rattle.numbered_arguments.specs.declared.Kind.{Kind}
 use Rattle.numbered_arguments.specs.declared.Kind.TheVariants as kinds
 use Rattle.numbered_arguments.specs.declared.Size.TheVariants.{Plain}
 use Rattle.java_printf_format.specs.declared.conversions.Conversion.{Conversion}
 use Rattle.java_printf_format.specs.declared.conversions.Conversion.TheVariants.{Percent, Line, General, Character}
 use Rattle.java_printf_format.specs.declared.conversions.Conversion.TheVariants.{Decimal, Octal, Float, HexFloat, Date}
-
-abbrev pub is_one_of : List ℕ → ℕ → Bool
-is_one_of letters b = list_any (λ letter. b == letter) letters
 
 -- ---- conversions
 

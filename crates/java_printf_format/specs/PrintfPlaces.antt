@@ -6,8 +6,8 @@ use Rattle.format_arguments.specs.declared.FormatFault.TheVariants.{Invalid, Mem
 use Rattle.numbered_arguments.specs.declared.Kind.{Kind}
 use Rattle.numbered_arguments.specs.declared.Numbered.{Numbered}
 use Rattle.java_printf_format.specs.declared.collecting.Collected as code
-use Rattle.java_printf_format.specs.declared.directive.Place.{Place}
-use Rattle.java_printf_format.specs.declared.directive.Place.TheVariants.{Own, Previous, Next}
+use Rattle.java_printf_format.specs.declared.directive.Which.{Which}
+use Rattle.java_printf_format.specs.declared.directive.Which.TheVariants.{Own, Previous, Next}
 use Rattle.java_printf_format.specs.declared.directive.Directive.{Directive}
 
 -- what some directives took: the arguments, the number of the next one that is taken without a number, and the number
@@ -20,30 +20,30 @@ pub record Taken : Type 0 where
 abbrev pub nothing : Taken
 nothing = record { asked = []; next = 1; last = None }
 
--- the number of the argument at a place; None: there is no argument before
-abbrev pub number_at : Place → Taken → Option ℕ
+-- the number of the argument at a which; None: there is no argument before
+abbrev pub number_at : Which → Taken → Option ℕ
 number_at (Own number) taken = Some number
 number_at Previous taken = taken.last
 number_at Next taken = Some taken.next
 
 -- the next number; GNU gettext counts modulo 2^32
-abbrev pub next_behind : Place → ℕ → ℕ
+abbrev pub next_behind : Which → ℕ → ℕ
 next_behind Next next = (next + 1) % 2 ^ 32
 next_behind _ next = next
 
 -- a directive without a kind takes no argument
-abbrev pub with_number : Taken → Place → Option Kind → Option ℕ → Option Taken
-with_number taken place kind None = None
-with_number taken place None (Some number) = Some taken
-with_number taken place (Some kind) (Some number) = Some (record {
+abbrev pub with_number : Taken → Which → Option Kind → Option ℕ → Option Taken
+with_number taken which kind None = None
+with_number taken which None (Some number) = Some taken
+with_number taken which (Some kind) (Some number) = Some (record {
   asked = taken.asked ++ record { number = number; kind = kind } ∷ [];
-  next = next_behind place taken.next;
+  next = next_behind which taken.next;
   last = Some number;
 })
 
 -- what had been taken once this directive took its argument; None: it refers to the one before, and there is none
 abbrev pub with_one : Taken → Directive → Option Taken
-with_one taken d = with_number taken d.place d.kind (number_at d.place taken)
+with_one taken d = with_number taken d.which d.kind (number_at d.which taken)
 
 abbrev pub with_one_if : Option Taken → Directive → Option Taken
 with_one_if None d = None

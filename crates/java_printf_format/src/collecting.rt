@@ -2,7 +2,7 @@
 ghost use Rattle.std.specs.Prelude.{◌≡◌, Some, OnOk, IfErr};
 ghost use Rattle.java_printf_format.specs.PrintfPlaces as spec;
 
-use crate::directive::{Directive, Place};
+use crate::directive::{Directive, Which};
 use format_arguments::FormatFault;
 use numbered_arguments::{Kind, Numbered};
 use std::alloc::{AllocError, Global};
@@ -17,13 +17,13 @@ pub(crate) struct Collected {
     pub(crate) last: Option<u32>,
 }
 
-/// The next number, behind an argument at this place.
-fn next_behind(place: Place, next: u32) -> u32
-    ensures { result ≡ spec.next_behind place next }
+/// The next number, behind an argument at this which.
+fn next_behind(which: Which, next: u32) -> u32
+    ensures { result ≡ spec.next_behind which next }
 {
-    match place {
-        Place::Next => next.wrapping_add(1),
-        Place::Own(_) | Place::Previous => next,
+    match which {
+        Which::Next => next.wrapping_add(1),
+        Which::Own(_) | Which::Previous => next,
     }
 }
 
@@ -38,25 +38,25 @@ impl Collected {
         }
     }
 
-    /// The number of the argument at a place. None: there is no argument before.
-    fn number_at(&self, place: Place) -> Option<u32>
-        ensures { result ≡ spec.number_at place (spec.taken_view self.now) }
+    /// The number of the argument at a which. None: there is no argument before.
+    fn number_at(&self, which: Which) -> Option<u32>
+        ensures { result ≡ spec.number_at which (spec.taken_view self.now) }
     {
-        match place {
-            Place::Own(number) => Some(number),
-            Place::Previous => self.last,
-            Place::Next => Some(self.next),
+        match which {
+            Which::Own(number) => Some(number),
+            Which::Previous => self.last,
+            Which::Next => Some(self.next),
         }
     }
 
     /// Takes an argument of this number, if there is a kind.
-    fn take(&mut self, place: Place, kind: Option<Kind>, number: u32) -> Result<(), AllocError>
-        ensures { OnOk result (spec.with_number (spec.taken_view self.old) place kind (Some number)
+    fn take(&mut self, which: Which, kind: Option<Kind>, number: u32) -> Result<(), AllocError>
+        ensures { OnOk result (spec.with_number (spec.taken_view self.old) which kind (Some number)
             ≡ Some (spec.taken_view self.new)) }
     {
         let Some(kind) = kind else { return Ok(()) };
         self.asked.push(Numbered { number, kind })?;
-        self.next = next_behind(place, self.next);
+        self.next = next_behind(which, self.next);
         self.last = Some(number);
         Ok(())
     }
@@ -67,10 +67,10 @@ impl Collected {
             ≡ Some (spec.taken_view self.new)) }
         ensures err { IfErr result (λ fault. spec.Blocks (spec.taken_view self.old) directive fault) }
     {
-        let Some(number) = self.number_at(directive.place) else {
+        let Some(number) = self.number_at(directive.which) else {
             return Err(FormatFault::Invalid)
         };
-        self.take(directive.place, directive.kind, number)?;
+        self.take(directive.which, directive.kind, number)?;
         Ok(())
     }
 }

@@ -13,7 +13,7 @@ use numbered_arguments::{Kind, number_of, split_digits};
 
 /// Which argument a directive takes.
 #[derive(Clone, Copy)]
-pub(crate) enum Place {
+pub(crate) enum Which {
     /// the one with this number
     Own(u32),
     /// that of the directive before
@@ -25,24 +25,24 @@ pub(crate) enum Place {
 /// A directive: which argument it takes, and as what kind. Without a kind it takes none.
 #[derive(Clone, Copy)]
 pub(crate) struct Directive {
-    pub(crate) place: Place,
+    pub(crate) which: Which,
     pub(crate) kind: Option<Kind>,
 }
 
 /// Reads a `<`, which may be left out.
-fn read_relative(text: &[u8]) -> (Place, &[u8])
-    ensures place { result.0 ≡ (spec.relative text.now).0 }
-    ensures rest { result.1.now ≡ (spec.relative text.now).1 }
+fn read_relative(text: &[u8]) -> (Which, &[u8])
+    ensures which { result.0 ≡ (spec.which_relative text.now).0 }
+    ensures rest { result.1.now ≡ (spec.which_relative text.now).1 }
 {
     match split_byte(text) {
-        Some((b'<', rest)) => (Place::Previous, rest),
-        _ => (Place::Next, text),
+        Some((b'<', rest)) => (Which::Previous, rest),
+        _ => (Which::Next, text),
     }
 }
 
 /// Reads `m$` or `<`, which may be left out. None: m is 0.
-fn read_place(text: &[u8]) -> Option<(Place, &[u8])>
-    ensures { option_map (λ found. (found.0, found.1.now)) result ≡ spec.place text.now }
+fn read_which(text: &[u8]) -> Option<(Which, &[u8])>
+    ensures { option_map (λ found. (found.0, found.1.now)) result ≡ spec.which text.now }
 {
     let (digits, behind) = split_digits(text);
     let number = number_of(digits);
@@ -50,7 +50,7 @@ fn read_place(text: &[u8]) -> Option<(Place, &[u8])>
         Some((b'$', rest)) => if number == 0 {
             None
         } else {
-            Some((Place::Own(number), rest))
+            Some((Which::Own(number), rest))
         },
         _ => Some(read_relative(text)),
     }
@@ -93,9 +93,9 @@ fn read_precision(text: &[u8]) -> Option<(bool, &[u8])>
     }
 }
 
-/// Reads what stands behind the place.
-fn read_back(place: Place, text: &[u8]) -> Option<(Directive, &[u8])>
-    ensures { option_map (λ found. (found.0, found.1.now)) result ≡ spec.back place text.now }
+/// Reads what stands behind the which.
+fn read_back(which: Which, text: &[u8]) -> Option<(Directive, &[u8])>
+    ensures { option_map (λ found. (found.0, found.1.now)) result ≡ spec.back which text.now }
 {
     let (flags, behind_flags) = split_flags(text);
     let (width, behind_width) = read_digits(behind_flags);
@@ -104,7 +104,7 @@ fn read_back(place: Place, text: &[u8]) -> Option<(Directive, &[u8])>
             Some((conversion, rest)) => if accepts(conversion, flags, width, precision) {
                 Some((
                     Directive {
-                        place,
+                        which,
                         kind: kind_of(conversion),
                     },
                     rest,
@@ -121,8 +121,8 @@ fn read_back(place: Place, text: &[u8]) -> Option<(Directive, &[u8])>
 fn read(text: &[u8]) -> Option<(Directive, &[u8])>
     ensures { option_map (λ found. (found.0, found.1.now)) result ≡ spec.directive text.now }
 {
-    match read_place(text) {
-        Some((place, rest)) => read_back(place, rest),
+    match read_which(text) {
+        Some((which, rest)) => read_back(which, rest),
         None => None,
     }
 }

@@ -53,13 +53,13 @@ abbrev pub Text : Lft → RattleType
 Text κ = ShrSlice erased κ u8
 
 -- at out is the answer to a question, shared for as long as κ
-abbrev pub answered : Lft → Ptr → Opened → Question → Fml
-answered κ out c q = fex (Bor (List ℕ)) (λ r. fex (IsClosedAnswer (map_of c) q r.now)
+abbrev pub answer_at : Lft → Ptr → Opened → Question → Fml
+answer_at κ out c q = fex (Bor (List ℕ)) (λ r. fex (IsClosedAnswer (map_of c) q r.now)
     (λ _. lies_at (Text κ) full_share out r))
 
 -- at out is a listed string, shared for as long as κ
-abbrev pub listed : Lft → Ptr → Opened → ℕ → ℕ → ℕ → Fml
-listed κ out c part i k = fex (Bor (List ℕ)) (λ r. fex (r.now ≡ text c part i k)
+abbrev pub string_at : Lft → Ptr → Opened → ℕ → ℕ → ℕ → Fml
+string_at κ out c part i k = fex (Bor (List ℕ)) (λ r. fex (r.now ≡ text c part i k)
     (λ _. lies_at (Text κ) full_share out r))
 
 -- ---- sets of catalogues, and readers, which lend one

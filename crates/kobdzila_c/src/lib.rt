@@ -25,20 +25,18 @@ ghost use Rattle.c_sets.specs.NamedPlaces.{AreSetPlaces};
 ghost use Rattle.c_sets.specs.contracts.sets.HeldSet.{the_row as set_row};
 ghost use Rattle.c_sets.specs.declared.sets.HeldSet.{HeldSet as ASet};
 ghost use Rattle.c_stores.specs.Storing.{AreOfOne, IsEntered, IsEnteredAfter, IsLoaded, IsNewStore, IsNoticeOf};
-ghost use Rattle.c_stores.specs.Storing.{IsEntranceOf, IsPublished, IsReaderFrom, IsStoreNumber};
-ghost use Rattle.c_stores.specs.Storing.{IsLeft, IsReclaimed};
+ghost use Rattle.c_stores.specs.Storing.{IsEntranceOf, IsPublished, IsReaderFrom, IsStoreNumber, IsLeft, IsReclaimed};
 ghost use Rattle.c_stores.specs.contracts.stores.HeldStore.{the_row as store_row};
 ghost use Rattle.c_stores.specs.declared.stores.HeldStore.{HeldStore as AStore};
 ghost use Rattle.c_stores.specs.contracts.stores.HeldNotice.{the_row as notice_row};
 ghost use Rattle.c_stores.specs.declared.stores.HeldNotice.{HeldNotice as ANotice};
 ghost use Rattle.c_stores.specs.contracts.stores.HeldEntrance.{the_row as entrance_row};
 ghost use Rattle.c_stores.specs.declared.stores.HeldEntrance.{HeldEntrance as AnEntrance};
-ghost use Rattle.kobdzila_c.specs.Shared.{Text, answered, holds, listed, mo_opened_at, po_opened_at, reads};
+ghost use Rattle.kobdzila_c.specs.Shared.{Text, answer_at, holds, string_at, mo_opened_at, po_opened_at, reads};
 ghost use Rattle.kobdzila_c.specs.Shared.{holds_set, places_at, reads_set, set_answered, set_answered_at, set_at};
-ghost use Rattle.kobdzila_c.specs.Shared.{holds_store, reads_store, store_at};
-ghost use Rattle.kobdzila_c.specs.Shared.{holds_notice, notice_at, reads_notice};
-ghost use Rattle.kobdzila_c.specs.Shared.{entrance_at, holds_entrance, reads_entrance};
-ghost use Rattle.kobdzila_c.specs.Shared.{holds_output, output_at, reads_output, text_lent};
+ghost use Rattle.kobdzila_c.specs.Shared.{holds_store, reads_store, store_at, holds_notice, notice_at, reads_notice};
+ghost use Rattle.kobdzila_c.specs.Shared.{entrance_at, holds_entrance, reads_entrance, holds_output, output_at};
+ghost use Rattle.kobdzila_c.specs.Shared.{reads_output, text_lent};
 
 use c_answers::Opened;
 use c_outputs::HeldOutput;
@@ -140,7 +138,7 @@ pub unsafe extern "C" fn kobdzila_text(
 )
     ghost g: { Lft × Share × Held }
     requires* { sem 𝓛 (reads g.0 g.1 held g.2) ∗ sem 𝓛 (room_at (Text g.0) out) }
-    ensures* { sem 𝓛 (flft g.0 g.1) ∗ sem 𝓛 (listed g.0 out g.2 part i k) }
+    ensures* { sem 𝓛 (flft g.0 g.1) ∗ sem 𝓛 (string_at g.0 out g.2 part i k) }
 {
     *out = c_answers::text(&*(held as *const Opened), part, i, k);
 }
@@ -176,7 +174,7 @@ pub unsafe extern "C" fn kobdzila_answer(
 )
     ghost g: { Lft × Share × Held }
     requires* { sem 𝓛 (reads g.0 g.1 held g.2) ∗ sem 𝓛 (room_at (Text g.0) out) }
-    ensures* { sem 𝓛 (flft g.0 g.1) ∗ sem 𝓛 (answered g.0 out g.2 (question call context.now id.now n)) }
+    ensures* { sem 𝓛 (flft g.0 g.1) ∗ sem 𝓛 (answer_at g.0 out g.2 (question call context.now id.now n)) }
 {
     *out = c_answers::answer(&*(held as *const Opened), context, id, call, n, hint);
 }
@@ -186,7 +184,7 @@ pub unsafe extern "C" fn kobdzila_answer(
 pub unsafe extern "C" fn kobdzila_gettext(held: *const Opaque, id: &[u8], out: *mut &[u8])
     ghost g: { Lft × Share × Held }
     requires* { sem 𝓛 (reads g.0 g.1 held g.2) ∗ sem 𝓛 (room_at (Text g.0) out) }
-    ensures* { sem 𝓛 (flft g.0 g.1) ∗ sem 𝓛 (answered g.0 out g.2 (question 0 [] id.now 0)) }
+    ensures* { sem 𝓛 (flft g.0 g.1) ∗ sem 𝓛 (answer_at g.0 out g.2 (question 0 [] id.now 0)) }
 {
     *out = c_answers::gettext(&*(held as *const Opened), id);
 }

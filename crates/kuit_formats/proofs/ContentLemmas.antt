@@ -7,7 +7,7 @@ use Rattle.kuit_formats.specs.KuitTokens.{Token, token}
 use Rattle.kuit_formats.specs.KuitTokens as tokens
 use Rattle.kuit_formats.specs.KuitTags.{TagEnds}
 use Rattle.kuit_formats.specs.KuitMarkup.{ItemAt, StartAt, EndAt, Empty, Item, Element, IsContent}
-use Rattle.kuit_formats.specs.KuitReading.{EndsAt, Closes, Opens, waiting}
+use Rattle.kuit_formats.specs.KuitReading.{EndsAt, Closes, Opens, waiting_names}
 
 -- ---- from what follows to the text
 
@@ -191,7 +191,7 @@ other_end old text name rest e none h = let found = end_off old text name rest e
 -- ---- open elements
 
 pub waiting_push : (names : List (Bor (List ℕ))) (name : Bor (List ℕ))
-    → waiting (names ++ name ∷ []) ≡ name.now ∷ waiting names
+    → waiting_names (names ++ name ∷ []) ≡ name.now ∷ waiting_names names
 waiting_push [] name = refl
 waiting_push (first ∷ more) name = ap (λ (xs : List (List ℕ)). xs ++ first.now ∷ []) (waiting_push more name)
 
@@ -219,13 +219,14 @@ not_nil : (names : List (List ℕ)) (name : List ℕ) → names ++ name ∷ [] �
 not_nil [] name e = absurd (cc e)
 not_nil (first ∷ names) name e = absurd (cc e)
 
-none_open : (names : List (Bor (List ℕ))) → waiting names ≡ [] → names ≡ []
+none_open : (names : List (Bor (List ℕ))) → waiting_names names ≡ [] → names ≡ []
 none_open [] e = refl
-none_open (name ∷ more) e = absurd (not_nil (waiting more) name.now e)
+none_open (name ∷ more) e = absurd (not_nil (waiting_names more) name.now e)
 
-pub all_read : (text rest : List ℕ) (names : List (Bor (List ℕ))) → (IsContent text ↔ Closes (waiting names) rest)
+pub all_read : (text rest : List ℕ) (names : List (Bor (List ℕ))) → (IsContent text ↔ Closes (waiting_names names) rest)
     → rest ≡ [] → IsContent text ↔ (names ≡ [])
 all_read text rest names h e = (
-  λ c. none_open names (last_end (waiting names) (subst (λ (t : List ℕ). Closes (waiting names) t) e (h.0 c))),
+  λ c. none_open names (last_end (waiting_names names)
+      (subst (λ (t : List ℕ). Closes (waiting_names names) t) e (h.0 c))),
   λ n. h.1 (rw (e, n) (Empty, refl)),
 )

@@ -1,8 +1,7 @@
 -- Bytes of markup, and what follows them (W3C, "Extensible Markup Language (XML) 1.0", section 2.3).
-use Rattle.std.specs.Prelude.{ℕ, Bool, false, ◌||◌, ◌==◌, nat_eq, nat_le, if◌then◌else◌, List, [], ◌∷◌, length, drop}
-use Rattle.std.specs.Prelude.{Option, None, Some}
+pub use Rattle.format_arguments.specs.Bytes.{behind_word}
+use Rattle.std.specs.Prelude.{ℕ, Bool, false, ◌||◌, ◌==◌, nat_le, List, [], ◌∷◌, Option, None, Some}
 use Rattle.std.specs.Char.{is_ascii_digit, is_ascii_hexdigit, is_ascii_alphanumeric}
-use Rattle.std.specs.List.{starts_with}
 use Rattle.format_arguments.specs.Bytes.{behind}
 use Rattle.kuit_formats.specs.declared.bytes.Class.{Class}
 use Rattle.kuit_formats.specs.declared.bytes.Class.TheVariants.{Blank, Name, Digit, HexDigit}
@@ -27,10 +26,6 @@ behind_blanks text = behind (is_in Blank) text
 abbrev pub begins_blank : List ℕ → Bool
 begins_blank [] = false
 begins_blank (b ∷ more) = is_blank b
-
--- what follows the word, if the text begins with it
-abbrev pub behind_word : List ℕ → List ℕ → Option (List ℕ)
-behind_word word text = if starts_with nat_eq text word then Some (drop (length word) text) else None
 
 abbrev pub or_else : Option (List ℕ) → Option (List ℕ) → Option (List ℕ)
 or_else None other = other

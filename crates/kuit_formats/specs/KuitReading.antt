@@ -57,9 +57,9 @@ pub record EndsAt (text : List ℕ) (empty : Bool) (rest : List ℕ) : Type 0 wh
 -- ---- open elements
 
 -- their names, the one that was opened last first
-abbrev pub waiting : List (Bor (List ℕ)) → List (List ℕ)
-waiting [] = []
-waiting (name ∷ more) = waiting more ++ name.now ∷ []
+abbrev pub waiting_names : List (Bor (List ℕ)) → List (List ℕ)
+waiting_names [] = []
+waiting_names (name ∷ more) = waiting_names more ++ name.now ∷ []
 
 -- the text is what is left of the content of the elements with these names, the innermost first, and their end-tags
 abbrev pub Closes : List (List ℕ) → List ℕ → Type 0

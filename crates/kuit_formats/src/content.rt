@@ -2,7 +2,7 @@
 ghost use Rattle.std.specs.Prelude.{◌≡◌, ◌<◌, ◌↔◌, ℕ, List, [], ◌∷◌, ◌≢◌, length, IsTrue, IsFalse, IfOk, OnOk};
 ghost use Rattle.std.specs.Prelude.{MatchOption, IfSome, if◌then◌else◌};
 ghost use Rattle.kuit_formats.specs.KuitMarkup.{IsMarkup, IsContent};
-ghost use Rattle.kuit_formats.specs.KuitReading.{Closes, Opens, waiting};
+ghost use Rattle.kuit_formats.specs.KuitReading.{Closes, Opens, waiting_names};
 
 use crate::attributes::read_tag;
 use crate::characters::are_characters;
@@ -11,8 +11,8 @@ use std::alloc::{AllocError, Global};
 
 /// Closes the element that was opened last, if it has this name.
 fn close(opened: &mut Vec<&[u8]>, name: &[u8]) -> bool
-    ensures yes { IsTrue result → waiting opened.old.items ≡ name.now ∷ waiting opened.new.items }
-    ensures no { IsFalse result → (names : List (List ℕ)) → waiting opened.old.items ≢ name.now ∷ names }
+    ensures yes { IsTrue result → waiting_names opened.old.items ≡ name.now ∷ waiting_names opened.new.items }
+    ensures no { IsFalse result → (names : List (List ℕ)) → waiting_names opened.old.items ≢ name.now ∷ names }
 {
     match opened.pop() {
         Some(last) => last == name,
@@ -26,8 +26,8 @@ fn open_unless<'a>(
     opened: &mut Vec<&'a [u8]>,
     name: &'a [u8],
 ) -> Result<(), AllocError>
-    ensures { OnOk result (waiting opened.new.items
-        ≡ (if empty then waiting opened.old.items else name.now ∷ waiting opened.old.items)) }
+    ensures { OnOk result (waiting_names opened.new.items
+        ≡ (if empty then waiting_names opened.old.items else name.now ∷ waiting_names opened.old.items)) }
 {
     if empty {
         return Ok(());
@@ -43,7 +43,8 @@ fn open_element<'a>(
     name: &'a [u8],
     text: &'a [u8],
 ) -> Result<Option<&'a [u8]>, AllocError>
-    ensures opens { IfOk result (λ found. Opens name.now text.now (waiting opened.old.items) (waiting opened.new.items)
+    ensures opens { IfOk result (λ found. Opens name.now text.now (waiting_names opened.old.items)
+        (waiting_names opened.new.items)
         found) }
     ensures within { IfOk result (λ found. IfSome found (λ rest. length rest.now < length text.now)) }
 {
@@ -63,8 +64,8 @@ fn read_next<'a>(
     text: &'a [u8],
 ) -> Result<Option<&'a [u8]>, AllocError>
     requires { text.now ≢ [] }
-    ensures next { IfOk result (λ found. MatchOption found (¬ Closes (waiting opened.old.items) text.now)
-        (λ rest. Closes (waiting opened.old.items) text.now ↔ Closes (waiting opened.new.items) rest.now)) }
+    ensures next { IfOk result (λ found. MatchOption found (¬ Closes (waiting_names opened.old.items) text.now)
+        (λ rest. Closes (waiting_names opened.old.items) text.now ↔ Closes (waiting_names opened.new.items) rest.now)) }
     ensures within { IfOk result (λ found. IfSome found (λ rest. length rest.now < length text.now)) }
 {
     match read_token(text) {

@@ -5,10 +5,10 @@ use Rattle.std.specs.Char.{is_ascii_digit}
 use Rattle.format_arguments.specs.Bytes.{behind}
 use Rattle.format_arguments.specs.Text.{AreDirectives}
 use Rattle.numbered_arguments.specs.declared.Kind.{Kind}
-use Rattle.script_formats.specs.ScriptParts.{place, behind_precision}
-use Rattle.script_formats.proofs.PartLemmas.{Within, some_is, behind_within, place_within, precision_within}
+use Rattle.script_formats.specs.ScriptParts.{index_at, behind_precision}
+use Rattle.script_formats.proofs.PartLemmas.{Within, some_is, behind_within, index_within, precision_within}
 use Rattle.librep_format.specs.declared.parts.Directive.{Directive}
-use Rattle.librep_format.specs.LibrepDirectives.{percent, is_flag, asked_by, made_if, converted, back, back_of}
+use Rattle.librep_format.specs.LibrepDirectives.{percent, is_flag, asked_by, made_if, behind_number, back, back_of}
 use Rattle.librep_format.specs.LibrepDirectives.{directive, DirectiveAt}
 
 -- ---- what follows a part is no longer than the text
@@ -19,7 +19,7 @@ made_within number rest None q e = absurd (cc e)
 made_within number rest (Some kind) q e =
     some_is Directive (record { number = number; kind = kind }, rest) q (length rest) e (omega arith)
 
-converted_within : (number : Option ℕ) (text : List ℕ) → Within Directive text (converted number text)
+converted_within : (number : Option ℕ) (text : List ℕ) → Within Directive text (behind_number number text)
 converted_within number [] q e = absurd (cc e)
 converted_within number (b ∷ more) q e = omega (arith, made_within number more (asked_by b) q e)
 
@@ -41,7 +41,7 @@ back_of_within text None h q e = absurd (cc e)
 back_of_within text (Some x) h q e = omega (arith, h x refl, back_within x.0 x.1 q e)
 
 within : (text : List ℕ) → Within Directive text (directive text)
-within text = back_of_within text (place text) (place_within text)
+within text = back_of_within text (index_at text) (index_within text)
 
 -- ---- directives
 

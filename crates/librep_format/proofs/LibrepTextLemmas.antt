@@ -9,7 +9,7 @@ use Rattle.numbered_arguments.specs.NumberedArguments.{is_consistent}
 use Rattle.librep_format.specs.declared.parts.Directive.{Directive}
 use Rattle.librep_format.specs.declared.counting.Counted.{Counted}
 use Rattle.librep_format.specs.LibrepDirectives.{percent, DirectiveAt}
-use Rattle.librep_format.specs.LibrepCounting.{numbered, HasCounted, Adds}
+use Rattle.librep_format.specs.LibrepCounting.{numbered_arguments, HasCounted, Adds}
 use Rattle.librep_format.specs.LibrepFormat.{HasSignature}
 use Rattle.librep_format.proofs.LibrepDirectiveLemmas.{are_directives}
 
@@ -64,7 +64,7 @@ is_format text rest counted so_far end consistent =
     let same : so_far.directives ≡ directives = so_far.read.asked_is ∙ all_itself directives in (
       directives,
       read_all percent DirectiveAt are_directives itself text rest so_far.directives so_far.read end,
-      so_far.counts.asked ∙ ap numbered same,
+      so_far.counts.asked ∙ ap numbered_arguments same,
       consistent,
     )
 
@@ -72,7 +72,8 @@ pub inconsistent : (text rest : List ℕ) (counted : Counted) → HasReadTo text
     → SkipsPlain percent rest [] → is_consistent counted.asked.items ≡ false → (asked : List Numbered)
     → HasSignature text asked → ⊥
 inconsistent text rest counted so_far end bad asked (ds, format, same, consistent) =
-    let equal : asked ≡ counted.asked.items = same ∙ ap numbered (all_read text rest counted so_far end ds format)
+    let equal : asked ≡ counted.asked.items = same ∙ ap numbered_arguments
+    (all_read text rest counted so_far end ds format)
     ∙ sym so_far.counts.asked in
     let here : is_consistent counted.asked.items ≡ true =
     subst (λ (a : List Numbered). is_consistent a ≡ true) equal consistent in
@@ -83,4 +84,4 @@ pub one_list : (text : List ℕ) (asked others : List Numbered) → HasSignature
 one_list text asked others (ds, f, e, consistent) (es, g, h, also) =
     let equal : ds ≡ es = sym (all_itself ds) ∙ one_asked percent DirectiveAt are_directives itself ds es text f g
     ∙ all_itself es in
-    e ∙ ap numbered equal ∙ sym h
+    e ∙ ap numbered_arguments equal ∙ sym h

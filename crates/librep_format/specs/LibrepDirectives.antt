@@ -1,4 +1,5 @@
 -- Directives of librep's `format` (GNU gettext manual, "librep Format Strings"; librep's manual: "Formatted Output").
+pub use Rattle.byte_text.specs.Characters.{percent}
 use Rattle.std.specs.Prelude.{◌≡◌, ℕ, Bool, ◌==◌, if◌then◌else◌, List, [], ◌∷◌, Option, None, Some, codes}
 use Rattle.std.specs.List.{list_any}
 use Rattle.std.specs.Char.{is_ascii_digit}
@@ -6,11 +7,8 @@ use Rattle.format_arguments.specs.Bytes.{behind}
 use Rattle.numbered_arguments.specs.declared.Kind.{Kind}
 use Rattle.numbered_arguments.specs.declared.Kind.TheVariants.{Character, Text, Integer, Object}
 use Rattle.numbered_arguments.specs.declared.Size.TheVariants.{Plain}
-use Rattle.script_formats.specs.ScriptParts.{place, behind_precision}
+use Rattle.script_formats.specs.ScriptParts.{index_at, behind_precision}
 use Rattle.librep_format.specs.declared.parts.Directive.{Directive}
-
-abbrev pub percent : ℕ
-percent = 37
 
 abbrev pub is_flag : ℕ → Bool
 is_flag b = list_any (λ flag. b == flag) (codes "-^0+ ")
@@ -34,13 +32,13 @@ abbrev pub made_if : Option ℕ → List ℕ → Option (Option Kind) → Option
 made_if number rest None = None
 made_if number rest (Some kind) = Some (record { number = number; kind = kind }, rest)
 
-abbrev pub converted : Option ℕ → List ℕ → Option (Directive × List ℕ)
-converted number [] = None
-converted number (b ∷ more) = made_if number more (asked_by b)
+abbrev pub behind_number : Option ℕ → List ℕ → Option (Directive × List ℕ)
+behind_number number [] = None
+behind_number number (b ∷ more) = made_if number more (asked_by b)
 
 -- flags, a width, a precision and a conversion
 abbrev pub back : Option ℕ → List ℕ → Option (Directive × List ℕ)
-back number text = converted number (behind_precision (behind is_ascii_digit (behind is_flag text)))
+back number text = behind_number number (behind_precision (behind is_ascii_digit (behind is_flag text)))
 
 abbrev pub back_of : Option (Option ℕ × List ℕ) → Option (Directive × List ℕ)
 back_of None = None
@@ -48,7 +46,7 @@ back_of (Some found) = back found.0 found.1
 
 -- what follows the `%`: the directive, and what follows it
 abbrev pub directive : List ℕ → Option (Directive × List ℕ)
-directive text = back_of (place text)
+directive text = back_of (index_at text)
 
 -- text is a `%` and this directive, followed by rest
 abbrev pub DirectiveAt : Directive → List ℕ → List ℕ → Type 0

@@ -7,12 +7,12 @@ use Rattle.numbered_arguments.specs.declared.Numbered.{Numbered}
 use Rattle.numbered_arguments.specs.NumberedArguments.{is_consistent}
 use Rattle.librep_format.specs.declared.parts.Directive.{Directive}
 use Rattle.librep_format.specs.LibrepDirectives.{percent, DirectiveAt}
-use Rattle.librep_format.specs.LibrepCounting.{numbered}
+use Rattle.librep_format.specs.LibrepCounting.{numbered_arguments}
 
 -- the text is a format that asks for these arguments, in this order, and each number has one kind
 abbrev pub HasSignature : List ℕ → List Numbered → Type 0
 HasSignature text asked = (directives : List Directive) × IsFormat percent DirectiveAt directives text
-    × (asked ≡ numbered directives) × (is_consistent asked ≡ true)
+    × (asked ≡ numbered_arguments directives) × (is_consistent asked ≡ true)
 
 -- the text has this fault; Memory says nothing about the text
 abbrev pub HasFault : List ℕ → FormatFault → Type 0

@@ -8,7 +8,7 @@ ghost use Rattle.librep_format.specs.LibrepDirectives as spec;
 
 use byte_text::split_byte;
 use numbered_arguments::{Kind, Size, skip_digits};
-use script_formats::{read_place, skip_precision};
+use script_formats::{read_index, skip_precision};
 
 /// A directive: the argument that it goes to, and what it asks for there.
 #[derive(Clone, Copy)]
@@ -61,7 +61,7 @@ fn read_back(number: Option<u32>, text: &[u8]) -> Option<(Directive, &[u8])>
 fn read(text: &[u8]) -> Option<(Directive, &[u8])>
     ensures { option_map (λ found. (found.0, found.1.now)) result ≡ spec.directive text.now }
 {
-    let (number, rest) = read_place(text)?;
+    let (number, rest) = read_index(text)?;
     read_back(number, rest)
 }
 

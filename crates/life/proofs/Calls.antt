@@ -1,7 +1,8 @@
 -- Each call adds to what its publisher or its reader has done.
 use Rattle.life.proofs.Common.{All, AllZip, ◌≡◌, ◌⊎◌, ℕ, suc, ◌+◌, ◌<◌, List, [], ◌∷◌, ◌++◌, map, length, refl, sym, ap}
 use Rattle.life.proofs.Common.{◌∙◌, subst, arith, append_assoc, inl, inr, ⊎_elim, LoadValue, version_of, StartsWith}
-use Rattle.life.proofs.Common.{published, SeenValue, StoreValue, Event, State, Accept, Refuse, Enter, Learn, opened}
+use Rattle.life.proofs.Common.{after_publish, SeenValue, StoreValue, Event, State, Accept, Refuse, Enter, Learn}
+use Rattle.life.proofs.Common.{new_store}
 use Rattle.life.proofs.Common.{after, state_of, MayFollow, IsLegal, begins_refl, May, Runs, runs_legal, AreBelow}
 use Rattle.life.proofs.Common.{runs_append, state_append, Act, Enters, Learns, IsEntry, IsLearning, Leads, LeadsAll}
 use Rattle.life.proofs.Common.{NoneIsReaders, StoreLists, lists_of, HasWorked, HasActed}
@@ -116,7 +117,7 @@ own_append (Publish ∷ a) b p q = own_append a b p q
 own_append _ b p q = absurd p
 
 may_here : (most : ℕ) (first : List Event) (e : Event) (rest : List Event) → NoneIsReaders (e ∷ rest)
-    → MayFollow most opened first e → May most (state_of first) e
+    → MayFollow most new_store first e → May most (state_of first) e
 may_here most first (Accept load) rest own may = may
 may_here most first (Enter reader version) rest own may = absurd own
 may_here most first (Learn reader version) rest own may = absurd own
@@ -136,10 +137,10 @@ runs_behind most first (e ∷ rest) legal own =
     let next : Runs most (state_of (first ++ e ∷ [])) rest = runs_behind most (first ++ e ∷ []) rest more
     (own_rest e rest own) in (
       may_here most first e rest own (legal first e rest refl),
-      subst (λ (s : State). Runs most s rest) (state_append opened first (e ∷ [])) next,
+      subst (λ (s : State). Runs most s rest) (state_append new_store first (e ∷ [])) next,
     )
 
-pub own_runs : (most : ℕ) (work : List Event) → IsLegal most work → NoneIsReaders work → Runs most opened work
+pub own_runs : (most : ℕ) (work : List Event) → IsLegal most work → NoneIsReaders work → Runs most new_store work
 own_runs most work legal own = runs_behind most [] work legal own
 
 -- some more events
@@ -148,8 +149,8 @@ pub work_append : (work more : List Event) (s t : StoreLists) → HasWorked work
     → (state_of (work ++ more)).pending ≡ t.pending → HasWorked (work ++ more) t
 work_append work more s t worked most own runs batches pending = record {
   legal = subst (λ (n : ℕ). IsLegal n (work ++ more)) (sym most)
-      (runs_legal s.most opened (work ++ more)
-      (runs_append s.most opened work more (own_runs s.most work worked.legal worked.own) runs));
+      (runs_legal s.most new_store (work ++ more)
+      (runs_append s.most new_store work more (own_runs s.most work worked.legal worked.own) runs));
   own = own_append work more worked.own own;
   batches = batches;
   pending = pending;
@@ -163,7 +164,7 @@ added work s t load worked room is =
     let n : version_of (state_of work).batches ≡ version_of s.seen.batches = ap version_of worked.batches in
     let m : length (state_of work).pending ≡ length s.pending = ap length worked.pending in
     let here : state_of (work ++ Accept load ∷ []) ≡ after (state_of work) (Accept load) =
-    state_append opened work (Accept load ∷ []) in
+    state_append new_store work (Accept load ∷ []) in
     let fits : version_of (state_of work).batches + length (state_of work).pending < s.most = omega
     (arith, n, m, room) in
     work_append work (Accept load ∷ []) (lists_of s) (lists_of t) worked (ap (λ (x : StoreValue). x.most) is) tt
@@ -183,7 +184,7 @@ load_mo_keeps work s t domain locale bytes entries worked is =
 
 pub refusal_keeps : RefusalKeeps
 refusal_keeps work s t worked is =
-    let here : state_of (work ++ Refuse ∷ []) ≡ state_of work = state_append opened work (Refuse ∷ []) in
+    let here : state_of (work ++ Refuse ∷ []) ≡ state_of work = state_append new_store work (Refuse ∷ []) in
     work_append work (Refuse ∷ []) (lists_of s) (lists_of t) worked (ap (λ (x : StoreValue). x.most) is) tt (tt, tt)
     (ap (λ (x : State). x.batches) here ∙ (worked.batches ∙ ap (λ (x : StoreValue). x.seen.batches) (sym is)))
     (ap (λ (x : State). x.pending) here ∙ (worked.pending ∙ ap (λ (x : StoreValue). x.pending) (sym is)))
@@ -191,9 +192,9 @@ refusal_keeps work s t worked is =
 pub publish_keeps : PublishKeeps
 publish_keeps work s t worked seen pending most =
     let here : state_of (work ++ Publish ∷ []) ≡ after (state_of work) Publish =
-    state_append opened work (Publish ∷ []) in
-    let same : published (state_of work).batches (state_of work).pending ≡ published s.seen.batches s.pending =
-    λ i. published (worked.batches i) (worked.pending i) in
+    state_append new_store work (Publish ∷ []) in
+    let same : after_publish (state_of work).batches (state_of work).pending ≡ after_publish s.seen.batches s.pending =
+    λ i. after_publish (worked.batches i) (worked.pending i) in
     work_append work (Publish ∷ []) (lists_of s) (lists_of t) worked most tt (tt, tt)
     (ap (λ (x : State). x.batches) here ∙ (same ∙ ap (λ (x : SeenValue). x.batches) (sym seen)))
     (ap (λ (x : State). x.pending) here ∙ sym pending)
@@ -214,7 +215,7 @@ acted_none seen (r ∷ rs) none all =
 
 pub worked_none : (s : StoreValue) → s.seen.batches ≡ [] → s.pending ≡ [] → HasWorked [] (lists_of s)
 worked_none s none pending =
-    record { legal = runs_legal s.most opened [] tt; own = tt; batches = sym none; pending = sym pending }
+    record { legal = runs_legal s.most new_store [] tt; own = tt; batches = sym none; pending = sym pending }
 
 pub open_reaches : OpenReaches
 open_reaches s readers none pending all =

@@ -1,9 +1,10 @@
 -- Requests and their replies, one after another.
 use Rattle.life.proofs.Common.{AllZip, get_or, Option, None, Some, ◌≡◌, ◌⊎◌, ℕ, ◌+◌, ◌<◌, List, [], ◌∷◌, ◌++◌, take}
 use Rattle.life.proofs.Common.{length, String, refl, sym, ap, ◌∙◌, subst, append_assoc, ⊎_elim, take_more, append-nil}
-use Rattle.life.proofs.Common.{LoadValue, QueryValue, joined, version_of, StartsWith, SeenValue, Reply, Act, Enters}
+use Rattle.life.proofs.Common.{LoadValue, QueryValue, joined_loads, version_of, StartsWith, SeenValue, Reply, Act}
+use Rattle.life.proofs.Common.{Enters}
 use Rattle.life.proofs.Common.{IsLearning, AreTexts, Leads, LeadsAll, queries_in, AreTextsOf, IsTold, IsReplyTo}
-use Rattle.life.proofs.Common.{AreReplies, looked_up, learning, acts_of_one, acts_for, IsAnswered}
+use Rattle.life.proofs.Common.{AreReplies, looked_up, learning_acts, acts_of_one, acts_for, IsAnswered}
 use Rattle.std.specs.declared.alloc.Global.{Global}
 use Rattle.std.specs.String.{string_bytes}
 use Rattle.std.proofs.lemmas.Slice.Zip.{all_zipped_more, AllZip-long}
@@ -34,36 +35,36 @@ texts_more loads queries i query texts text below is all one =
 -- a reply without a notice
 pub plain_answers : (queries : List QueryValue) (seen next : List (List LoadValue)) (reply : Reply)
     → reply.learnt ≡ None → StartsWith next seen → reply.version ≡ version_of next
-    → AreTextsOf (joined next) queries reply.texts.items → IsAnswered queries seen next reply
+    → AreTextsOf (joined_loads next) queries reply.texts.items → IsAnswered queries seen next reply
 plain_answers queries seen next reply none later version texts =
-    let R : QueryValue → String Global → Type 0 = λ q t. HasText (joined next) q (string_bytes t) in
+    let R : QueryValue → String Global → Type 0 = λ q t. HasText (joined_loads next) q (string_bytes t) in
     let entry : Act = Enters reply.version (looked_up queries reply.texts.items) in
     let one : Leads seen entry next = record {
       later = later;
       version_is = version;
-      texts = texts_are (joined next) queries reply.texts.items texts;
+      texts = texts_are (joined_loads next) queries reply.texts.items texts;
     } in
     record {
       texts = AllZip-long R queries reply.texts.items texts;
-      leads = subst (λ (o : Option ℕ). LeadsAll seen (learning o ++ entry ∷ []) next) (sym none) (next, one, refl);
+      leads = subst (λ (o : Option ℕ). LeadsAll seen (learning_acts o ++ entry ∷ []) next) (sym none) (next, one, refl);
     }
 
 -- a reply with a notice, which was learnt before the entry
 pub told_answers : (queries : List QueryValue) (seen told next : List (List LoadValue)) (reply : Reply) (version : ℕ)
     → reply.learnt ≡ Some version → IsLearning seen version told → StartsWith next told
-    → reply.version ≡ version_of next → AreTextsOf (joined next) queries reply.texts.items
+    → reply.version ≡ version_of next → AreTextsOf (joined_loads next) queries reply.texts.items
     → IsAnswered queries seen next reply
 told_answers queries seen told next reply version some learns later is texts =
-    let R : QueryValue → String Global → Type 0 = λ q t. HasText (joined next) q (string_bytes t) in
+    let R : QueryValue → String Global → Type 0 = λ q t. HasText (joined_loads next) q (string_bytes t) in
     let entry : Act = Enters reply.version (looked_up queries reply.texts.items) in
     let one : Leads told entry next = record {
       later = later;
       version_is = is;
-      texts = texts_are (joined next) queries reply.texts.items texts;
+      texts = texts_are (joined_loads next) queries reply.texts.items texts;
     } in
     record {
       texts = AllZip-long R queries reply.texts.items texts;
-      leads = subst (λ (o : Option ℕ). LeadsAll seen (learning o ++ entry ∷ []) next) (sym some)
+      leads = subst (λ (o : Option ℕ). LeadsAll seen (learning_acts o ++ entry ∷ []) next) (sym some)
           (told, learns, (next, one, refl));
     }
 
@@ -72,7 +73,7 @@ pub learnt_answers : (queries : List QueryValue) (old notice told next : SeenVal
     → reply.learnt ≡ Some (version_of notice.batches)
     → StartsWith told.batches old.batches × StartsWith told.batches notice.batches
     → (told ≡ old) ⊎ (told ≡ notice) → StartsWith next.batches told.batches
-    → reply.version ≡ version_of next.batches → AreTextsOf (joined next.batches) queries reply.texts.items
+    → reply.version ≡ version_of next.batches → AreTextsOf (joined_loads next.batches) queries reply.texts.items
     → IsAnswered queries old.batches next.batches reply
 learnt_answers queries old notice told next reply some longer one later is texts =
     told_answers queries old.batches told.batches next.batches reply (version_of notice.batches) some
@@ -82,7 +83,8 @@ learnt_answers queries old notice told next reply some longer one later is texts
 pub entered_answers : (queries : List QueryValue) (old notice next : SeenValue) (reply : Reply)
     → reply.learnt ≡ Some (version_of notice.batches) → StartsWith next.batches notice.batches
     → StartsWith next.batches old.batches → reply.version ≡ version_of next.batches
-    → AreTextsOf (joined next.batches) queries reply.texts.items → IsAnswered queries old.batches next.batches reply
+    → AreTextsOf (joined_loads next.batches) queries reply.texts.items
+    → IsAnswered queries old.batches next.batches reply
 entered_answers queries old notice next reply some entered later is texts =
     let version : ℕ = version_of notice.batches in
     ⊎_elim

@@ -1,7 +1,7 @@
 -- The life of a store from its opening on.
 use Rattle.life.proofs.Common.{AllZip, AllByRecursion, ◌≡◌, ℕ, List, [], ◌∷◌, ◌++◌, map, take, length, refl, sym, ap}
-use Rattle.life.proofs.Common.{◌∙◌, subst, version_of, SeenValue, StoreValue, Event, opened, IsLegal, Client, Act}
-use Rattle.life.proofs.Common.{AreReplies, run_acts, seen_by_all, IsStepOf, acts_of, met, AreCommands, HasActed}
+use Rattle.life.proofs.Common.{◌∙◌, subst, version_of, SeenValue, StoreValue, Event, new_store, IsLegal, Client, Act}
+use Rattle.life.proofs.Common.{AreReplies, run_acts, seen_by_all, IsStepOf, acts_of, steps_of, AreCommands, HasActed}
 use Rattle.life.proofs.Common.{with_run, Lives, HasLife, IsRun, client_acts}
 use Rattle.std.proofs.lemmas.Slice.Zip.{AllZip-long}
 use Rattle.life.specs.declared.command.Command.{Command}
@@ -82,12 +82,12 @@ fresh_run most s t len commands outcomes before slice done rest empty is all sam
     (sym (all_taken s.seen t.seen len before done rest served len_is)) (record {
       history = lives.history;
       legal = subst (λ (n : ℕ). IsLegal n lives.history) (lives.most ∙ is) lives.life.legal;
-      commands_are = subst (λ (l : List Event). AreCommands most opened commands outcomes l) (sym lives.life.work_is)
-          (subst (λ (n : ℕ). AreCommands n opened commands outcomes lives.events) is lives.commands_are);
+      commands_are = subst (λ (l : List Event). AreCommands most new_store commands outcomes l) (sym lives.life.work_is)
+          (subst (λ (n : ℕ). AreCommands n new_store commands outcomes lives.events) is lives.commands_are);
       each = each_answered s.seen t.seen before done served;
       end = version_of t.seen.batches;
       end_is = ap version_of (sym lives.life.batches);
       answers = λ reader. subst (λ (l : List (List Act)). AllZip IsStepOf (acts_of l reader)
-          (met reader opened lives.history)) (fresh_acts s.seen t.seen before done empty.0 served)
+          (steps_of reader new_store lives.history)) (fresh_acts s.seen t.seen before done empty.0 served)
           (lives.life.steps reader);
     })

@@ -1,9 +1,9 @@
 -- Histories from the opening on, event by event; and what the same events are in two states.
 use Rattle.life.proofs.Common.{◌≡◌, ℕ, ◌+◌, ◌≤◌, ◌<◌, ◌==◌, Bool, true, false, if◌then◌else◌, max, List, [], ◌∷◌, ◌++◌}
 use Rattle.life.proofs.Common.{length, refl, sym, ap, ◌∙◌, subst, arith, nat_tests, append-nil, LoadValue, version_of}
-use Rattle.life.proofs.Common.{StartsWith, published, Event, State, Accept, Refuse, Enter, Learn, opened, after}
+use Rattle.life.proofs.Common.{StartsWith, after_publish, Event, State, Accept, Refuse, Enter, Learn, new_store, after}
 use Rattle.life.proofs.Common.{state_from, state_of, WasPublished, MayFollow, IsLegal, IsWhole, begins_refl, begins_nil}
-use Rattle.life.proofs.Common.{version_grows, May, Runs, Level, level_after, grows, Met, Notice, met_in, met}
+use Rattle.life.proofs.Common.{version_grows, May, Runs, Level, level_after, grows, Met, Notice, met_in, steps_of}
 use Rattle.std.specs.Prelude.{⊤}
 use Rattle.live_versions.specs.History.{Publish}
 use Rattle.life.specs.Life.{Entry}
@@ -21,8 +21,9 @@ next_batch (f ∷ fin) (n ∷ now) p x xs a b =
     (rest.0, ap (λ (l : List (List LoadValue)). n ∷ l) rest.1)
 
 next_published : (fin now front : List (List LoadValue)) (loads : List LoadValue) (x : List LoadValue)
-    (xs : List (List LoadValue)) → front ≡ now ++ x ∷ xs → StartsWith fin front → StartsWith fin (published now loads)
-    → StartsWith front (published now loads)
+    (xs : List (List LoadValue)) → front ≡ now ++ x ∷ xs → StartsWith fin front
+    → StartsWith fin (after_publish now loads)
+    → StartsWith front (after_publish now loads)
 next_published fin now front [] x xs is a b = (x ∷ xs, is)
 next_published fin now front (l ∷ ls) x xs is a b =
     subst (λ (z : List (List LoadValue)). StartsWith z (now ++ (l ∷ ls) ∷ [])) (sym is)
@@ -79,16 +80,18 @@ goes_at : (most : ℕ) (s : State) (first : List Event) (e : Event) (rest : List
 goes_at most s [] e rest goes = goes.0
 goes_at most s (x ∷ first) e rest goes = goes_at most (after s x) first e rest goes.1
 
-fit_follows : (most : ℕ) (first : List Event) (e : Event) → Fits most (state_of first) e → MayFollow most opened first e
+fit_follows : (most : ℕ) (first : List Event) (e : Event) → Fits most (state_of first) e
+    → MayFollow most new_store first e
 fit_follows most first Refuse fit = tt
 fit_follows most first Publish fit = tt
 fit_follows most first (Learn reader version) (front, begins, is) =
-    subst (λ (n : ℕ). WasPublished opened first n) (sym is) (was_from opened first front begins (begins_nil front))
+    subst (λ (n : ℕ). WasPublished new_store first n) (sym is)
+    (was_from new_store first front begins (begins_nil front))
 fit_follows most first _ fit = fit
 
-pub goes_legal : (most : ℕ) (events : List Event) → Goes most opened events → IsLegal most events
+pub goes_legal : (most : ℕ) (events : List Event) → Goes most new_store events → IsLegal most events
 goes_legal most events goes first e rest is = fit_follows most first e
-    (goes_at most opened first e rest (subst (λ (l : List Event). Goes most opened l) is goes))
+    (goes_at most new_store first e rest (subst (λ (l : List Event). Goes most new_store l) is goes))
 
 fit_level : (most : ℕ) (s u : State) (e : Event) → Level s u → Fits most s e → Fits most u e
 fit_level most s u (Accept load) same fit =
@@ -131,10 +134,10 @@ not_met_in count reader s (Learn other version) is le =
 not_met_in count reader s _ is le = refl
 
 pub not_met : (count reader : ℕ) (s : State) (events : List Event) → AreUnder count events → count ≤ reader
-    → met reader s events ≡ []
+    → steps_of reader s events ≡ []
 not_met count reader s [] under le = refl
 not_met count reader s (e ∷ events) under le =
-    ap (λ (l : List Met). l ++ met reader (after s e) events) (not_met_in count reader s e under.0 le)
+    ap (λ (l : List Met). l ++ steps_of reader (after s e) events) (not_met_in count reader s e under.0 le)
     ∙ not_met count reader (after s e) events under.1 le
 
 pub seen_after : (count reader : ℕ) (s : State) (e : Event) → IsUnder count e → count ≤ reader
@@ -192,7 +195,7 @@ alike_after reader s u (Learn other version) same = record {
 alike_after reader s u e same = record { level = level_after s u e same.level; seen = same.seen }
 
 pub met_alike : (reader : ℕ) (s u : State) (events : List Event) → Alike reader s u
-    → met reader s events ≡ met reader u events
+    → steps_of reader s events ≡ steps_of reader u events
 met_alike reader s u [] same = refl
 met_alike reader s u (e ∷ events) same =
     let here = met_alike_in reader s u e same in

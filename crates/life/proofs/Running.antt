@@ -1,8 +1,9 @@
 -- Commands in turn, and what a run adds to a store's life.
 use Rattle.life.proofs.Common.{AllZip, get_or, ◌≡◌, ℕ, ◌+◌, ◌<◌, List, [], ◌∷◌, ◌++◌, take, drop, length, refl, sym, ap}
 use Rattle.life.proofs.Common.{◌∙◌, subst, take_more, take-append-drop, LoadValue, version_of, SeenValue, StoreValue}
-use Rattle.life.proofs.Common.{Event, State, Accept, Refuse, opened, state_from, state_of, JobValue, IsRefused}
-use Rattle.life.proofs.Common.{after_publish, Runs, Level, runs_level, level_from, state_append, Client, NoneIsReaders}
+use Rattle.life.proofs.Common.{Event, State, Accept, Refuse, new_store, state_from, state_of, JobValue, IsRefused}
+use Rattle.life.proofs.Common.{store_after_publish, Runs, Level, runs_level, level_from, state_append, Client}
+use Rattle.life.proofs.Common.{NoneIsReaders}
 use Rattle.life.proofs.Common.{lists_of, HasWorked, Reached, StopsAfter, store_in, AreCommands, seen_by_all, acts_after}
 use Rattle.life.proofs.Common.{HasLife, StopKeeps}
 use Rattle.live_loads.specs.declared.fault.StoreFault.{StoreFault}
@@ -107,7 +108,7 @@ done_all seen (Load job ∷ commands) (Refused why ∷ outcomes) t s (between, (
       are = ((λ store. any_store s.most (state_at seen s) s.seen store job why refused), rest.are);
     }
 done_all seen (Publish ∷ commands) (Published version ∷ outcomes) t s (between, (is, version_is), all) =
-    let rest : Done seen commands outcomes t (after_publish s) = subst
+    let rest : Done seen commands outcomes t (store_after_publish s) = subst
     (λ (x : StoreValue). Done seen commands outcomes t x) is (done_all seen commands outcomes t between all) in
     record {
       events = Publishes ∷ rest.events;
@@ -148,7 +149,7 @@ worked_all work s t commands outcomes w does =
     let same : Level (state_at seen s) (state_of work) = record { batches = sym w.batches; pending = sym w.pending } in
     let here : state_at seen s ≡ state_of work =
     λ i. record { batches = same.batches i; pending = same.pending i; seen = seen } in
-    let split : state_of (work ++ events) ≡ state_from (state_of work) events = state_append opened work events in
+    let split : state_of (work ++ events) ≡ state_from (state_of work) events = state_append new_store work events in
     let level = level_from (state_at seen s) (state_of work) events same in
     record {
       events = events;

@@ -1,8 +1,9 @@
 -- A service adds its jobs to what the publisher has done, and its entries to what each reader has.
 use Rattle.life.proofs.Common.{AllZip, AllByRecursion, ◌≡◌, ℕ, ◌≤◌, max, take, List, [], ◌∷◌, ◌++◌, map, Ok, Err, refl}
-use Rattle.life.proofs.Common.{sym, ap, ◌∙◌, subst, arith, ⊎_elim, LoadValue, QueryValue, joined, version_of}
-use Rattle.life.proofs.Common.{StartsWith, SeenValue, StoreValue, Event, State, Accept, Refuse, opened, state_from}
-use Rattle.life.proofs.Common.{state_of, begins_refl, JobValue, after_publish, AreJobs, version_grows, first_loads}
+use Rattle.life.proofs.Common.{sym, ap, ◌∙◌, subst, arith, ⊎_elim, LoadValue, QueryValue, joined_loads, version_of}
+use Rattle.life.proofs.Common.{StartsWith, SeenValue, StoreValue, Event, State, Accept, Refuse, new_store, state_from}
+use Rattle.life.proofs.Common.{state_of, begins_refl, JobValue, store_after_publish, AreJobs, version_grows}
+use Rattle.life.proofs.Common.{first_loads}
 use Rattle.life.proofs.Common.{Runs, Level, runs_level, level_from, grows, state_append, Act, Learns, IsEntry}
 use Rattle.life.proofs.Common.{IsLearning, LeadsAll, NoneIsReaders, lists_of, HasActed}
 use Rattle.std.specs.String.{string_bytes}
@@ -15,7 +16,7 @@ use Rattle.desks.specs.declared.desk.Desk.{Desk}
 use Rattle.desks.specs.Answers.{IsVersionedAnswer, Answered}
 use Rattle.desks.specs.Jobs.{Outcome, Does, DoesAll}
 use Rattle.desks.specs.Desks.{IsServed}
-use Rattle.life.specs.Serving.{entered, served_acts, with_served, seen_at, ServeKeeps}
+use Rattle.life.specs.Serving.{acts_of_entries, served_acts, with_served, seen_at, ServeKeeps}
 use Rattle.life.proofs.Calls.{leads_append, work_append, learns_nothing, learns_all, either_begins}
 
 -- ---- the publisher
@@ -50,9 +51,9 @@ done_all seen [] [] t s does = record {
 }
 done_all seen (job ∷ jobs) (Ok counts ∷ outcomes) t s (between, (loaded, (map, brings, adds), is), all) =
     let load : LoadValue = record { domain = job.domain; locale = job.locale; map = map } in
-    let next : between ≡ after_publish (record s { pending = s.pending ++ load ∷ [] }) = is
-    ∙ ap after_publish adds.after_is in
-    let rest : Done seen jobs outcomes t (after_publish (record s { pending = s.pending ++ load ∷ [] })) = subst
+    let next : between ≡ store_after_publish (record s { pending = s.pending ++ load ∷ [] }) = is
+    ∙ ap store_after_publish adds.after_is in
+    let rest : Done seen jobs outcomes t (store_after_publish (record s { pending = s.pending ++ load ∷ [] })) = subst
     (λ (x : StoreValue). Done seen jobs outcomes t x) next (done_all seen jobs outcomes t between all) in
     record {
       events = Accept load ∷ Publish ∷ rest.events;
@@ -85,9 +86,9 @@ record Entered (end cur : List (List LoadValue)) (query : QueryValue) (answer : 
 
 entered_at : (end cur next : List (List LoadValue)) (query : QueryValue) (answer : Answer) → StartsWith end next
     → StartsWith next cur → answer.version ≡ version_of next
-    → HasText (take answer.version (joined end)) query (string_bytes answer.text) → Entered end cur query answer
+    → HasText (take answer.version (joined_loads end)) query (string_bytes answer.text) → Entered end cur query answer
 entered_at end cur next query answer begins later is text =
-    let loads : take answer.version (joined end) ≡ joined next = ap (λ n. take n (joined end)) is
+    let loads : take answer.version (joined_loads end) ≡ joined_loads next = ap (λ n. take n (joined_loads end)) is
     ∙ first_loads end next begins in
     record {
       next = next;
@@ -112,7 +113,7 @@ entered_one end cur query answer far le one =
 
 entered_all : (end cur : List (List LoadValue)) (least : ℕ) (queries : List QueryValue) (answers : List Answer)
     → StartsWith end cur → version_of cur ≤ least → Answered end least queries answers
-    → (last : List (List LoadValue)) × StartsWith end last × LeadsAll cur (entered queries answers) last
+    → (last : List (List LoadValue)) × StartsWith end last × LeadsAll cur (acts_of_entries queries answers) last
 entered_all end cur least [] [] far le answered = (cur, far, refl)
 entered_all end cur least (query ∷ queries) (answer ∷ answers) far le answered =
     let one = entered_one end cur query answer far (omega (arith, le, answered.0)) answered.1 in
@@ -146,8 +147,9 @@ served_one start end acts desk done begins acted served =
     (max (version_of desk.reader.batches) (version_of start.batches)) desk.queries.items done.answers.items first.begins
     first.low served.answered in
     let told : List Act = Learns (version_of end.batches) ∷ [] in
-    let rest : LeadsAll first.next (entered desk.queries.items done.answers.items ++ told) end.batches = leads_append
-    first.next (entered desk.queries.items done.answers.items) asked.0 told end.batches asked.2
+    let rest : LeadsAll first.next (acts_of_entries desk.queries.items done.answers.items ++ told) end.batches =
+    leads_append
+    first.next (acts_of_entries desk.queries.items done.answers.items) asked.0 told end.batches asked.2
     (end.batches, learns_all asked.0 end.batches asked.1, refl) in
     let all : HasActed (acts ++ served_acts start end desk done) end.batches = leads_append [] acts desk.reader.batches
     (served_acts start end desk done) end.batches acted (first.next, first.is, rest) in
@@ -175,12 +177,12 @@ pub serve_keeps : ServeKeeps
 serve_keeps s t jobs outcomes before done work acts reached does served =
     let w = reached.worked in
     let seen = (state_of work).seen in
-    let jobs_done : Done seen jobs outcomes t (after_publish s) =
-    done_all seen jobs outcomes t (after_publish s) does in
+    let jobs_done : Done seen jobs outcomes t (store_after_publish s) =
+    done_all seen jobs outcomes t (store_after_publish s) does in
     let events : List Event = Publish ∷ jobs_done.events in
     let same : Level (state_at seen s) (state_of work) = record { batches = sym w.batches; pending = sym w.pending } in
     let runs : Runs s.most (state_at seen s) events = (tt, jobs_done.runs) in
-    let split : state_of (work ++ events) ≡ state_from (state_of work) events = state_append opened work events in
+    let split : state_of (work ++ events) ≡ state_from (state_of work) events = state_append new_store work events in
     let level = level_from (state_at seen s) (state_of work) events same in
     let begins : StartsWith t.seen.batches s.seen.batches = subst
     (λ (l : List (List LoadValue)). StartsWith l s.seen.batches) jobs_done.level.batches

@@ -1,10 +1,11 @@
 -- One more reader's acts are put into a history: each where what is published is what the reader has seen behind it.
 use Rattle.life.proofs.Common.{AllZip, ◌≡◌, ℕ, ◌+◌, ◌≤◌, ◌==◌, Bool, true, false, if◌then◌else◌, max, List, [], ◌∷◌}
 use Rattle.life.proofs.Common.{◌++◌, length, refl, sym, ap, ◌∙◌, subst, arith, length-append, ⊎_elim, nat_tests}
-use Rattle.life.proofs.Common.{append-nil, LoadValue, joined, version_of, StartsWith, Event, State, Enter, Learn, after}
+use Rattle.life.proofs.Common.{append-nil, LoadValue, joined_loads, version_of, StartsWith, Event, State, Enter, Learn}
+use Rattle.life.proofs.Common.{after}
 use Rattle.life.proofs.Common.{with_seen, state_from, IsWhole, begins_refl, begins_trans, without_entries}
 use Rattle.life.proofs.Common.{version_grows, Level, level_from, level_trans, grows, work_more, Looked, Act, Enters}
-use Rattle.life.proofs.Common.{Learns, AreTexts, IsLearning, Leads, LeadsAll, Met, Notice, met_in, met, IsStepOf}
+use Rattle.life.proofs.Common.{Learns, AreTexts, IsLearning, Leads, LeadsAll, Met, Notice, met_in, steps_of, IsStepOf}
 use Rattle.life.specs.Life.{Entry}
 use Rattle.life.proofs.Histories.{next_begins, Fits, Goes, goes_level, IsUnder, AreUnder, under_more, not_met_in}
 use Rattle.life.proofs.Histories.{seen_after, met_alike, seen_alike}
@@ -72,9 +73,9 @@ pub record Woven (most r : ℕ) (s : State) (events : List Event) (acts : List A
   pub under : AreUnder (r + 1) history
   pub level : Level (state_from s history) (state_from s events)
   pub work : without_entries history ≡ without_entries events
-  pub mine : AllZip IsStepOf acts (met r s history)
+  pub mine : AllZip IsStepOf acts (steps_of r s history)
   pub seen : (state_from s history).seen r ≡ last
-  pub others : (reader : ℕ) → (reader == r) ≡ false → met reader s history ≡ met reader s events
+  pub others : (reader : ℕ) → (reader == r) ≡ false → steps_of reader s history ≡ steps_of reader s events
   pub others_seen : (reader : ℕ) → (reader == r) ≡ false
       → (state_from s history).seen reader ≡ (state_from s events).seen reader
 
@@ -93,7 +94,7 @@ record IsOwn (r : ℕ) (s : State) (e : Event) (act : Act) : Type 0 where
   pub seen : (reader : ℕ) → (reader == r) ≡ false → (after s e).seen reader ≡ s.seen reader
 
 own_enter : (r version : ℕ) (looked : List Looked) (s : State) → version ≡ version_of s.batches → s.seen r ≤ version
-    → AreTexts (joined s.batches) looked → IsOwn r s (Enter r version) (Enters version looked)
+    → AreTexts (joined_loads s.batches) looked → IsOwn r s (Enter r version) (Enters version looked)
 own_enter r version looked s here le texts = record {
   under = omega arith;
   level = record { batches = refl; pending = refl };
@@ -130,11 +131,11 @@ put most r s events e act acts last fit own w =
       level = level_trans (state_from u w.history) (state_from u events) (state_from s events) w.level
           (level_from u s events own.level);
       work = own.work w.history ∙ w.work;
-      mine = subst (λ (l : List Met). AllZip IsStepOf (act ∷ acts) (l ++ met r u w.history)) (sym own.step_is)
+      mine = subst (λ (l : List Met). AllZip IsStepOf (act ∷ acts) (l ++ steps_of r u w.history)) (sym own.step_is)
           (own.is, w.mine);
       seen = w.seen;
       others = λ reader no.
-          ap (λ (l : List Met). l ++ met reader u w.history) (own.none reader no) ∙ (w.others reader no
+          ap (λ (l : List Met). l ++ steps_of reader u w.history) (own.none reader no) ∙ (w.others reader no
           ∙ met_alike reader u s events (record { level = own.level; seen = own.seen reader no }));
       others_seen = λ reader no. w.others_seen reader no
           ∙ seen_alike reader u s events (record { level = own.level; seen = own.seen reader no });
@@ -149,7 +150,7 @@ pass most r s e events acts last fit is w = record {
   under = (under_more r e is, w.under);
   level = w.level;
   work = work_more e w.history events w.work;
-  mine = subst (λ (l : List Met). AllZip IsStepOf acts (l ++ met r (after s e) w.history))
+  mine = subst (λ (l : List Met). AllZip IsStepOf acts (l ++ steps_of r (after s e) w.history))
       (sym (not_met_in r r s e is (omega arith))) w.mine;
   seen = w.seen;
   others = λ reader no. ap (λ (l : List Met). met_in reader s e ++ l) (w.others reader no);
@@ -187,8 +188,8 @@ put_all most r s events end go seen (Enters version looked ∷ acts) (cur, next,
     let le : version_of cur ≤ version_of next = version_grows next cur leads.later in
     let now : u.seen r ≡ version_of next = ap (λ (b : Bool). if b then version else seen r) (same_number r)
     ∙ leads.version_is in
-    let texts : AreTexts (joined s.batches) looked = subst
-    (λ (l : List (List LoadValue)). AreTexts (joined l) looked) same leads.texts in
+    let texts : AreTexts (joined_loads s.batches) looked = subst
+    (λ (l : List (List LoadValue)). AreTexts (joined_loads l) looked) same leads.texts in
     let rest : Left (u.seen r) s.batches acts end = subst (λ (k : ℕ). Left k s.batches acts end) (sym now)
     (left_here s.batches next acts end same all) in
     put most r (seen_as s seen) events (Enter r version) (Enters version looked) acts (version_of end) here

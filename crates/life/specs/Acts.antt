@@ -2,9 +2,8 @@
 use Rattle.std.specs.Prelude.{◌≡◌, ◌⊎◌, ℕ, List, [], ◌∷◌}
 use Rattle.std.specs.List.{AllByRecursion}
 use Rattle.live_set.specs.Loads.{LoadValue}
-use Rattle.live_set.specs.Asks.{QueryValue}
-use Rattle.live_set.specs.Asks.{IsAnswer as HasText}
-use Rattle.live_versions.specs.Batches.{joined, version_of, StartsWith}
+use Rattle.live_set.specs.Asks.{QueryValue, IsAnswer as HasText}
+use Rattle.live_versions.specs.Batches.{joined_loads, version_of, StartsWith}
 
 -- a query, and the text that it was answered
 pub record Looked : Type 0 where
@@ -25,7 +24,7 @@ pub record IsEntry (seen : List (List LoadValue)) (version : ℕ) (looked : List
     : Type 0 where
   pub later : StartsWith next seen
   pub version_is : version ≡ version_of next
-  pub texts : AreTexts (joined next) looked
+  pub texts : AreTexts (joined_loads next) looked
 
 -- after a notice of this version the longer of both lists is seen
 pub record IsLearning (seen : List (List LoadValue)) (version : ℕ) (next : List (List LoadValue)) : Type 0 where

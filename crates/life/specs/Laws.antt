@@ -3,10 +3,9 @@ use Rattle.std.specs.Prelude.{◌≡◌, ◌⊎◌, ◌∷◌, [], ◌++◌, ℕ
 use Rattle.std.specs.List.{All, AllByRecursion}
 use Rattle.catalogue.specs.declared.Options.{Options}
 use Rattle.catalogue.specs.declared.Stats.{Stats}
-use Rattle.live_set.specs.Asks.{QueryValue}
-use Rattle.live_set.specs.Asks.{IsAnswer as HasText}
+use Rattle.live_set.specs.Asks.{QueryValue, IsAnswer as HasText}
 use Rattle.live_set.specs.Loads.{LoadValue}
-use Rattle.live_versions.specs.Batches.{joined, version_of, StartsWith, published}
+use Rattle.live_versions.specs.Batches.{joined_loads, version_of, StartsWith, after_publish}
 use Rattle.live_versions.specs.Seen.{SeenValue}
 use Rattle.live_versions.specs.Store.{StoreValue, Accepts, AcceptsMo}
 use Rattle.live_versions.specs.History.{Event, Accept, Refuse, Publish}
@@ -51,7 +50,7 @@ RefusalKeeps = (work : List Event) (s t : StoreValue) → HasWorked work (lists_
 -- `Publisher::publish`
 abbrev pub PublishKeeps : Type 0
 PublishKeeps = (work : List Event) (s t : StoreValue) → HasWorked work (lists_of s)
-    → t.seen ≡ record { book = s.seen.book; batches = published s.seen.batches s.pending } → t.pending ≡ []
+    → t.seen ≡ record { book = s.seen.book; batches = after_publish s.seen.batches s.pending } → t.pending ≡ []
     → t.most ≡ s.most → HasWorked (work ++ Publish ∷ []) (lists_of t)
 
 -- ---- a reader
@@ -61,13 +60,13 @@ abbrev pub EnterKeeps : Type 0
 EnterKeeps = (acts : List Act) (old entry new : SeenValue) (version : ℕ) (looked : List Looked)
     → HasActed acts old.batches
     → StartsWith entry.batches old.batches → version ≡ version_of entry.batches
-    → AreTexts (joined entry.batches) looked → new ≡ entry
+    → AreTexts (joined_loads entry.batches) looked → new ≡ entry
     → HasActed (acts ++ Enters version looked ∷ []) new.batches
 
 -- `Lookups::ask` and `ask_into`
 abbrev pub AskKeeps : Type 0
 AskKeeps = (acts : List Act) (old new : SeenValue) (version : ℕ) (query : QueryValue) (text : List ℕ)
-    → HasActed acts old.batches → (version ≡ version_of new.batches) × HasText (joined new.batches) query text
+    → HasActed acts old.batches → (version ≡ version_of new.batches) × HasText (joined_loads new.batches) query text
     → StartsWith new.batches old.batches
     → HasActed (acts ++ Enters version (record { query = query; text = text } ∷ []) ∷ []) new.batches
 

@@ -2,8 +2,8 @@
 use Rattle.std.specs.Prelude.{◌≡◌, ℕ, ◌≤◌, ◌==◌, if◌then◌else◌, List, [], ◌∷◌, ◌++◌, map, slice_index_or}
 use Rattle.std.specs.List.{AllZip}
 use Rattle.live_set.specs.Loads.{LoadValue}
-use Rattle.live_versions.specs.Batches.{joined, version_of}
-use Rattle.live_versions.specs.History.{Event, Enter, Learn, State, opened, after, state_of, IsLegal}
+use Rattle.live_versions.specs.Batches.{joined_loads, version_of}
+use Rattle.live_versions.specs.History.{Event, Enter, Learn, State, new_store, after, state_of, IsLegal}
 use Rattle.desks.specs.ServedHistory.{without_entries}
 use Rattle.life.specs.Acts.{Act, Enters, Learns, AreTexts}
 use Rattle.life.specs.Reached.{StoreLists}
@@ -21,15 +21,15 @@ met_in reader s (Learn other version) = if reader == other then Notice version �
 met_in reader s _ = []
 
 -- the reader's steps in a history, in order
-abbrev pub met : ℕ → State → List Event → List Met
-met reader s [] = []
-met reader s (event ∷ events) = met_in reader s event ++ met reader (after s event) events
+abbrev pub steps_of : ℕ → State → List Event → List Met
+steps_of reader s [] = []
+steps_of reader s (event ∷ events) = met_in reader s event ++ steps_of reader (after s event) events
 
 -- The step is this act: an entry's version is the length of the list that is published there, no less than what the
 -- reader had seen, and each text is its query's over all loads that are published there.
 abbrev pub IsStepOf : Act → Met → Type 0
 IsStepOf (Enters version looked) (Entry batches seen) = (version ≡ version_of batches) × (seen ≤ version)
-    × AreTexts (joined batches) looked
+    × AreTexts (joined_loads batches) looked
 IsStepOf (Learns version) (Notice told) = told ≡ version
 IsStepOf _ _ = ⊥
 
@@ -50,4 +50,4 @@ pub record IsLifeOf (s : StoreLists) (readers : List (List (List LoadValue))) (w
   pub pending : (state_of history).pending ≡ s.pending
   pub seen : (reader : ℕ) → (state_of history).seen reader ≡ seen_of readers reader
   pub work_is : without_entries history ≡ work
-  pub steps : (reader : ℕ) → AllZip IsStepOf (acts_of acts reader) (met reader opened history)
+  pub steps : (reader : ℕ) → AllZip IsStepOf (acts_of acts reader) (steps_of reader new_store history)

@@ -2,7 +2,7 @@
 use Rattle.std.specs.Prelude.{◌≡◌, ℕ, List, map}
 use Rattle.std.specs.List.{AllZip, AllByRecursion}
 use Rattle.live_versions.specs.Batches.{version_of}
-use Rattle.live_versions.specs.History.{Event, opened, state_of, IsLegal}
+use Rattle.live_versions.specs.History.{Event, new_store, state_of, IsLegal}
 use Rattle.desks.specs.ServedHistory.{without_entries}
 use Rattle.life.specs.declared.client.Client.{Client}
 use Rattle.life.specs.declared.command.Command.{Command}
@@ -10,7 +10,7 @@ use Rattle.life.specs.declared.command.Outcome.{Outcome}
 use Rattle.life.specs.Acts.{Act}
 use Rattle.life.specs.Replies.{AreReplies}
 use Rattle.life.specs.Clients.{run_acts}
-use Rattle.life.specs.Life.{IsStepOf, acts_of, met}
+use Rattle.life.specs.Life.{IsStepOf, acts_of, steps_of}
 use Rattle.life.specs.PublisherWork.{AreCommands}
 
 -- each client's acts from the opening to the end: a notice of nothing, for each request an entry with the texts of all
@@ -26,8 +26,9 @@ client_acts end clients = map (run_acts 0 end) clients
 pub record IsRun (most : ℕ) (commands : List Command) (outcomes : List Outcome) (clients : List Client) : Type 0 where
   pub history : List Event
   pub legal : IsLegal most history
-  pub commands_are : AreCommands most opened commands outcomes (without_entries history)
+  pub commands_are : AreCommands most new_store commands outcomes (without_entries history)
   pub each : AllByRecursion (λ client. AreReplies client.requests.items client.replies.items) clients
   pub end : ℕ
   pub end_is : end ≡ version_of (state_of history).batches
-  pub answers : (reader : ℕ) → AllZip IsStepOf (acts_of (client_acts end clients) reader) (met reader opened history)
+  pub answers : (reader : ℕ) → AllZip IsStepOf (acts_of (client_acts end clients) reader)
+      (steps_of reader new_store history)

@@ -3,10 +3,9 @@ use Rattle.std.specs.Prelude.{◌≡◌, ◌≢◌, ⊤, ℕ, List, [], ◌∷�
 use Rattle.live_versions.specs.Batches.{version_of}
 use Rattle.live_versions.specs.Seen.{SeenValue}
 use Rattle.live_versions.specs.Store.{StoreValue, AreNames}
-use Rattle.live_versions.specs.History.{Event, State, Accept, Refuse, after}
-use Rattle.live_versions.specs.History.{Publish as Publishes}
+use Rattle.live_versions.specs.History.{Event, State, Accept, Refuse, after, Publish as Publishes}
 use Rattle.live_loads.specs.declared.fault.StoreFault.{StoreFault}
-use Rattle.desks.specs.Jobs.{JobValue, IsAccepted, IsRefused, after_publish}
+use Rattle.desks.specs.Jobs.{JobValue, IsAccepted, IsRefused, store_after_publish}
 use Rattle.desks.specs.ServedHistory.{IsLoadOf}
 use Rattle.life.specs.declared.command.Command.{Command}
 use Rattle.life.specs.declared.command.Command.TheVariants.{Load, Publish}
@@ -19,7 +18,7 @@ use Rattle.life.specs.declared.command.Outcome.TheVariants.{Loaded, Refused, Pub
 abbrev pub Does : StoreValue → Command → Outcome → StoreValue → Type 0
 Does s (Load job) (Loaded counts) t = IsAccepted s job counts t
 Does s (Load job) (Refused fault) t = IsRefused s job fault × (t ≡ s)
-Does s Publish (Published version) t = (t ≡ after_publish s) × (version ≡ version_of t.seen.batches)
+Does s Publish (Published version) t = (t ≡ store_after_publish s) × (version ≡ version_of t.seen.batches)
 Does s Publish Unpublished t = (s.pending ≢ []) × (t ≡ s)
 Does s _ _ t = ⊥
 

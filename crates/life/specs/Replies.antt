@@ -4,8 +4,7 @@ use Rattle.std.specs.List.{AllZip}
 use Rattle.std.specs.declared.alloc.Global.{Global}
 use Rattle.std.specs.String.{string_bytes}
 use Rattle.live_set.specs.Loads.{LoadValue}
-use Rattle.live_set.specs.Asks.{QueryValue}
-use Rattle.live_set.specs.Asks.{IsAnswer as HasText}
+use Rattle.live_set.specs.Asks.{QueryValue, IsAnswer as HasText}
 use Rattle.life.specs.declared.client.Reply.{Reply}
 use Rattle.life.specs.declared.client.Request.{Request}
 use Rattle.life.specs.declared.client.Request.TheVariants.{Ask, AskInto, Group, LearnFirst}
@@ -43,14 +42,15 @@ looked_up (query ∷ queries) (text ∷ texts) =
 looked_up _ _ = []
 
 -- a notice of this version is learnt, if there is one
-abbrev pub learning : Option ℕ → List Act
-learning None = []
-learning (Some version) = Learns version ∷ []
+abbrev pub learning_acts : Option ℕ → List Act
+learning_acts None = []
+learning_acts (Some version) = Learns version ∷ []
 
 -- the acts of a reply: the notice that it names is learnt, if it names one, and then all queries are looked up in one
 -- entry
 abbrev pub acts_of_one : List QueryValue → Reply → List Act
-acts_of_one queries reply = learning reply.learnt ++ Enters reply.version (looked_up queries reply.texts.items) ∷ []
+acts_of_one queries reply = learning_acts reply.learnt ++ Enters reply.version (looked_up queries reply.texts.items)
+    ∷ []
 
 -- those of all requests, in order
 abbrev pub acts_for : List Request → List Reply → List Act

@@ -17,15 +17,16 @@ use Rattle.life.specs.Acts.{Act, Enters, Learns}
 use Rattle.life.specs.Reached.{lists_of, Reached}
 
 -- one entry for each query, with its answer
-abbrev pub entered : List QueryValue → List Answer → List Act
-entered (query ∷ queries) (answer ∷ answers) =
-    Enters answer.version (record { query = query; text = string_bytes answer.text } ∷ []) ∷ entered queries answers
-entered _ _ = []
+abbrev pub acts_of_entries : List QueryValue → List Answer → List Act
+acts_of_entries (query ∷ queries) (answer ∷ answers) =
+    Enters answer.version (record { query = query; text = string_bytes answer.text } ∷ [])
+    ∷ acts_of_entries queries answers
+acts_of_entries _ _ = []
 
 -- the reader learns what is published, enters for each query, and settles with what is published at the end
 abbrev pub served_acts : SeenValue → SeenValue → Desk → Desk → List Act
 served_acts start end desk after = Learns (version_of start.batches)
-    ∷ (entered desk.queries.items after.answers.items ++ Learns (version_of end.batches) ∷ [])
+    ∷ (acts_of_entries desk.queries.items after.answers.items ++ Learns (version_of end.batches) ∷ [])
 
 -- what each reader had done, followed by that
 abbrev pub with_served : SeenValue → SeenValue → List (List Act) → List Desk → List Desk → List (List Act)

@@ -1,6 +1,6 @@
 //! The reading threads: each client's requests.
 ghost use Rattle.std.specs.Prelude.{◌≡◌, [], ◌∷◌, None, IfOk, OnOk, IsSome};
-ghost use Rattle.live_versions.specs.Batches.{joined, version_of, StartsWith};
+ghost use Rattle.live_versions.specs.Batches.{joined_loads, version_of, StartsWith};
 ghost use Rattle.live_versions.specs.Entering.{visit_of};
 ghost use Rattle.life.specs.Acts.{LeadsAll};
 ghost use Rattle.life.specs.Boards.{numbers_of};
@@ -22,7 +22,7 @@ fn look_all(
     pinned: &Pinned<'_>,
     queries: &[Query],
 ) -> Result<Vec<String>, AllocError>
-    ensures { IfOk result (λ texts. AreTextsOf (joined (visit_of pinned.now).batches) queries.now texts.items) }
+    ensures { IfOk result (λ texts. AreTextsOf (joined_loads (visit_of pinned.now).batches) queries.now texts.items) }
 {
     let mut texts = Vec::new(alloc);
     for index in 0..queries.len() {
@@ -38,7 +38,7 @@ fn answer_group(alloc: Global, reader: &mut Lookups, queries: &[Query]) -> Resul
     ensures later { StartsWith reader.new.batches reader.old.batches }
     ensures learnt { IfOk result (λ reply. reply.learnt ≡ None) }
     ensures version { IfOk result (λ reply. reply.version ≡ version_of reader.new.batches) }
-    ensures texts { IfOk result (λ reply. AreTextsOf (joined reader.new.batches) queries.now reply.texts.items) }
+    ensures texts { IfOk result (λ reply. AreTextsOf (joined_loads reader.new.batches) queries.now reply.texts.items) }
 {
     let Ok(pinned) = reader.enter() else {
         return Err(ServeFault::Closed);
@@ -78,7 +78,8 @@ fn answer_ask(alloc: Global, reader: &mut Lookups, query: &Query) -> Result<Repl
     ensures later { StartsWith reader.new.batches reader.old.batches }
     ensures learnt { IfOk result (λ reply. reply.learnt ≡ None) }
     ensures version { IfOk result (λ reply. reply.version ≡ version_of reader.new.batches) }
-    ensures texts { IfOk result (λ reply. AreTextsOf (joined reader.new.batches) (query.now ∷ []) reply.texts.items) }
+    ensures texts { IfOk result (λ reply. AreTextsOf (joined_loads reader.new.batches) (query.now ∷ [])
+        reply.texts.items) }
 {
     match reader.ask(alloc, query) {
         Ok((version, text)) => reply_of(alloc, version, text),
@@ -97,7 +98,8 @@ fn answer_into(
     ensures later { StartsWith reader.new.batches reader.old.batches }
     ensures learnt { IfOk result (λ reply. reply.learnt ≡ None) }
     ensures version { IfOk result (λ reply. reply.version ≡ version_of reader.new.batches) }
-    ensures texts { IfOk result (λ reply. AreTextsOf (joined reader.new.batches) (query.now ∷ []) reply.texts.items) }
+    ensures texts { IfOk result (λ reply. AreTextsOf (joined_loads reader.new.batches) (query.now ∷ [])
+        reply.texts.items) }
 {
     match reader.ask_into(query, kept) {
         Ok(version) => match String::from_str(alloc, kept.as_str()) {

@@ -11,27 +11,28 @@ use Rattle.lisp_formats.specs.declared.conversions.Conversion.{Conversion}
 use Rattle.lisp_formats.specs.declared.conversions.Target.{Target}
 use Rattle.lisp_formats.specs.declared.conversions.Target.TheVariants.{Nothing, Next, Previous, Unread}
 use Rattle.lisp_formats.specs.LispParameters.{AreParameters}
-use Rattle.lisp_formats.specs.LispConversions.{conversion_of, expected, target_of}
-use Rattle.lisp_formats.specs.LispDirectives.{Directive, tilde, variables, is_modifier, modifiers, made, targeted}
-use Rattle.lisp_formats.specs.LispDirectives.{converted_if, behind_modifiers, back, DirectiveAt}
+use Rattle.lisp_formats.specs.LispConversions.{conversion_of, expected_kinds, target_of}
+use Rattle.lisp_formats.specs.LispDirectives.{Directive, tilde, variables, is_modifier, modifiers, directive_from}
+use Rattle.lisp_formats.specs.LispDirectives.{directive_to, converted_if, behind_modifiers, back, DirectiveAt}
 use Rattle.lisp_formats.proofs.LispParameterLemmas.{Within, some_is, behind_within, parameters_within, one_parameters}
 
 -- ---- what follows a directive is no longer than the text
 
 made_within : (target : Target) (rest : List ℕ) (kinds : Option (List Kind))
-    → Within Directive rest (made target rest kinds)
+    → Within Directive rest (directive_from target rest kinds)
 made_within target rest None p e = absurd (cc e)
 made_within target rest (Some kinds) p e =
     some_is Directive (record { variables = kinds; target = target }, rest) p (length rest) e (omega arith)
 
 targeted_within : (conversion : Conversion) (ps : List Parameter) (rest : List ℕ) (target : Target)
-    → Within Directive rest (targeted conversion ps rest target)
+    → Within Directive rest (directive_to conversion ps rest target)
 targeted_within conversion ps rest Unread p e =
     some_is Directive (record { variables = []; target = Unread }, []) p (length rest) e (omega arith)
-targeted_within conversion ps rest Nothing p e = made_within Nothing rest (variables (expected conversion) ps) p e
+targeted_within conversion ps rest Nothing p e = made_within Nothing rest (variables (expected_kinds conversion) ps) p e
 targeted_within conversion ps rest (Next kind) p e =
-    made_within (Next kind) rest (variables (expected conversion) ps) p e
-targeted_within conversion ps rest Previous p e = made_within Previous rest (variables (expected conversion) ps) p e
+    made_within (Next kind) rest (variables (expected_kinds conversion) ps) p e
+targeted_within conversion ps rest Previous p e = made_within Previous rest (variables (expected_kinds conversion) ps)
+    p e
 
 converted_within : (found : Option Conversion) (colon : Bool) (ps : List Parameter) (rest : List ℕ)
     → Within Directive rest (converted_if found colon ps rest)
@@ -59,7 +60,7 @@ abbrev Ends : Option (Directive × List ℕ) → Type 0
 Ends found = (p : Directive × List ℕ) → found ≡ Some p → p.0.target ≡ Unread → p.1 ≡ []
 
 made_ends : (target : Target) (rest : List ℕ) (kinds : Option (List Kind)) → (target ≡ Unread → ⊥)
-    → Ends (made target rest kinds)
+    → Ends (directive_from target rest kinds)
 made_ends target rest None read p e unread = absurd (cc e)
 made_ends target rest (Some kinds) read p e unread =
     let d : Directive = record { variables = kinds; target = target } in
@@ -67,17 +68,17 @@ made_ends target rest (Some kinds) read p e unread =
     absurd (read (sym (ap (λ (x : Directive × List ℕ). x.0.target) same) ∙ unread))
 
 targeted_ends : (conversion : Conversion) (ps : List Parameter) (rest : List ℕ) (target : Target)
-    → Ends (targeted conversion ps rest target)
+    → Ends (directive_to conversion ps rest target)
 targeted_ends conversion ps rest Unread p e unread =
     let d : Directive = record { variables = []; target = Unread } in
     let same : p ≡ (d, []) = cc (sym e) in
     ap (λ (x : Directive × List ℕ). x.1) same
 targeted_ends conversion ps rest Nothing p e unread =
-    made_ends Nothing rest (variables (expected conversion) ps) (λ x. absurd (cc x)) p e unread
+    made_ends Nothing rest (variables (expected_kinds conversion) ps) (λ x. absurd (cc x)) p e unread
 targeted_ends conversion ps rest (Next kind) p e unread =
-    made_ends (Next kind) rest (variables (expected conversion) ps) (λ x. absurd (cc x)) p e unread
+    made_ends (Next kind) rest (variables (expected_kinds conversion) ps) (λ x. absurd (cc x)) p e unread
 targeted_ends conversion ps rest Previous p e unread =
-    made_ends Previous rest (variables (expected conversion) ps) (λ x. absurd (cc x)) p e unread
+    made_ends Previous rest (variables (expected_kinds conversion) ps) (λ x. absurd (cc x)) p e unread
 
 converted_ends : (found : Option Conversion) (colon : Bool) (ps : List Parameter) (rest : List ℕ)
     → Ends (converted_if found colon ps rest)

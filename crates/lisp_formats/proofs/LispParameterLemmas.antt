@@ -8,7 +8,7 @@ use Rattle.std.proofs.lemmas.List.{length-drop}
 use Rattle.format_arguments.specs.Bytes.{behind, BeginsNot}
 use Rattle.lisp_formats.specs.declared.parameters.Parameter.{Parameter}
 use Rattle.lisp_formats.specs.declared.parameters.Parameter.TheVariants.{Absent, Number, Character, Variable}
-use Rattle.lisp_formats.specs.LispParameters.{comma, is_sign, is_quote, is_variable, is_hash, signed, quoted}
+use Rattle.lisp_formats.specs.LispParameters.{comma, is_sign, is_quote, is_variable, is_hash, behind_sign, behind_quote}
 use Rattle.lisp_formats.specs.LispParameters.{parameter, AreParameters}
 
 -- ---- what follows a part is no longer than the text
@@ -24,7 +24,7 @@ some_is A p q n e le =
 pub behind_within : (test : ℕ → Bool) (text : List ℕ) → length (behind test text) ≤ length text
 behind_within test text = omega (arith, length-drop (prefix_len test text) text)
 
-signed_within : (text : List ℕ) → Within Parameter text (signed text)
+signed_within : (text : List ℕ) → Within Parameter text (behind_sign text)
 signed_within [] p e = absurd (cc e)
 signed_within (b ∷ more) p e = elim (cases_Bool (is_ascii_digit b)) [
   | inl is ↦ some_is Parameter (Number, behind is_ascii_digit more) p (length (b ∷ more)) (rw is at e)
@@ -32,7 +32,7 @@ signed_within (b ∷ more) p e = elim (cases_Bool (is_ascii_digit b)) [
   | inr other ↦ absurd (cc (rw other at e))
 ]
 
-quoted_within : (text : List ℕ) → Within Parameter text (quoted text)
+quoted_within : (text : List ℕ) → Within Parameter text (behind_quote text)
 quoted_within [] p e = absurd (cc e)
 quoted_within (b ∷ more) p e = some_is Parameter (Character, more) p (length (b ∷ more)) e (omega arith)
 

@@ -1,7 +1,7 @@
 -- Conversions: which there are, which parameters each expects, and what each asks for (GNU gettext manual, "Scheme
 -- Format Strings" and "Lisp Format Strings"; GNU Guile, "Formatted Output"; Common Lisp HyperSpec, section 22.3).
+pub use Rattle.format_arguments.specs.Bytes.{is_one_of}
 use Rattle.std.specs.Prelude.{ℕ, Bool, true, false, ◌==◌, if◌then◌else◌, List, [], ◌∷◌, Option, None, Some, codes}
-use Rattle.std.specs.List.{list_any}
 use Rattle.lisp_formats.specs.declared.Notation.{Notation}
 use Rattle.lisp_formats.specs.declared.Notation.TheVariants.{Scheme, Lisp}
 use Rattle.lisp_formats.specs.declared.Kind.{Kind}
@@ -20,12 +20,9 @@ use Rattle.lisp_formats.specs.declared.conversions.Conversion.TheVariants.{Fille
 
 -- ---- letters
 
-abbrev pub is_one_of : List ℕ → ℕ → Bool
-is_one_of letters b = list_any (λ letter. b == letter) letters
-
 -- what both languages have; jumps, groups, choices, loops and ends are not read, nor what takes a format as an argument
-abbrev pub shared : ℕ → Option Conversion
-shared b =
+abbrev pub shared_conversion : ℕ → Option Conversion
+shared_conversion b =
     if is_one_of (codes "aAsS") b then Some Object
     else if is_one_of (codes "bBdDoOxX") b then Some Integer
     else if is_one_of (codes "rR") b then Some Radix
@@ -61,36 +58,37 @@ of_lisp b =
     else if is_one_of (codes "/!<") b then Some Unread
     else None
 
-abbrev pub own : Notation → ℕ → Option Conversion
-own Scheme b = of_scheme b
-own Lisp b = of_lisp b
+abbrev pub own_conversion : Notation → ℕ → Option Conversion
+own_conversion Scheme b = of_scheme b
+own_conversion Lisp b = of_lisp b
 
 abbrev pub or_own : Option Conversion → Notation → ℕ → Option Conversion
-or_own None notation b = own notation b
+or_own None notation b = own_conversion notation b
 or_own (Some conversion) notation b = Some conversion
 
 -- the conversion of a letter; None: there is no such conversion
 abbrev pub conversion_of : Notation → ℕ → Option Conversion
-conversion_of notation b = or_own (shared b) notation b
+conversion_of notation b = or_own (shared_conversion b) notation b
 
 -- ---- parameters
 
 -- the kinds of the parameters of a conversion
-abbrev pub expected : Conversion → List Kind
-expected Object = OptionalInteger ∷ OptionalInteger ∷ OptionalInteger ∷ OptionalCharacter ∷ []
-expected Dollars = OptionalInteger ∷ OptionalInteger ∷ OptionalInteger ∷ OptionalCharacter ∷ []
-expected Integer = OptionalInteger ∷ OptionalCharacter ∷ OptionalCharacter ∷ OptionalInteger ∷ []
-expected Radix = OptionalInteger ∷ OptionalInteger ∷ OptionalCharacter ∷ OptionalCharacter ∷ OptionalInteger ∷ []
-expected Fixed = OptionalInteger ∷ OptionalInteger ∷ OptionalInteger ∷ OptionalCharacter ∷ OptionalCharacter ∷ []
-expected Complex = OptionalInteger ∷ OptionalInteger ∷ OptionalInteger ∷ OptionalCharacter ∷ OptionalCharacter ∷ []
-expected Exponential =
+abbrev pub expected_kinds : Conversion → List Kind
+expected_kinds Object = OptionalInteger ∷ OptionalInteger ∷ OptionalInteger ∷ OptionalCharacter ∷ []
+expected_kinds Dollars = OptionalInteger ∷ OptionalInteger ∷ OptionalInteger ∷ OptionalCharacter ∷ []
+expected_kinds Integer = OptionalInteger ∷ OptionalCharacter ∷ OptionalCharacter ∷ OptionalInteger ∷ []
+expected_kinds Radix = OptionalInteger ∷ OptionalInteger ∷ OptionalCharacter ∷ OptionalCharacter ∷ OptionalInteger ∷ []
+expected_kinds Fixed = OptionalInteger ∷ OptionalInteger ∷ OptionalInteger ∷ OptionalCharacter ∷ OptionalCharacter ∷ []
+expected_kinds Complex = OptionalInteger ∷ OptionalInteger ∷ OptionalInteger ∷ OptionalCharacter ∷ OptionalCharacter
+    ∷ []
+expected_kinds Exponential =
     OptionalInteger ∷ OptionalInteger ∷ OptionalInteger ∷ OptionalInteger ∷ OptionalCharacter ∷ OptionalCharacter
     ∷ OptionalCharacter ∷ []
-expected Coded = OptionalInteger ∷ []
-expected Repeated = OptionalInteger ∷ []
-expected Column = OptionalInteger ∷ OptionalInteger ∷ []
-expected Filled = OptionalInteger ∷ OptionalInteger ∷ OptionalCharacter ∷ []
-expected _ = []
+expected_kinds Coded = OptionalInteger ∷ []
+expected_kinds Repeated = OptionalInteger ∷ []
+expected_kinds Column = OptionalInteger ∷ OptionalInteger ∷ []
+expected_kinds Filled = OptionalInteger ∷ OptionalInteger ∷ OptionalCharacter ∷ []
+expected_kinds _ = []
 
 -- ---- arguments
 

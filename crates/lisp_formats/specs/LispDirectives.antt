@@ -1,5 +1,6 @@
 -- Directives: their parameters, modifiers and conversion (Common Lisp HyperSpec, section 22.3; GNU Guile,
 -- "Formatted Output").
+pub use Rattle.byte_text.specs.Characters.{tilde}
 use Rattle.std.specs.Prelude.{◌≡◌, ℕ, Bool, true, false, ◌||◌, ◌==◌, if◌then◌else◌, List, [], ◌∷◌, ◌++◌, Option, None}
 use Rattle.std.specs.Prelude.{Some}
 use Rattle.std.specs.List.{list_any}
@@ -14,10 +15,7 @@ use Rattle.lisp_formats.specs.declared.conversions.Target.{Target}
 use Rattle.lisp_formats.specs.declared.conversions.Target.TheVariants as targets
 use Rattle.lisp_formats.specs.declared.directives.Directive as code
 use Rattle.lisp_formats.specs.LispParameters.{AreParameters}
-use Rattle.lisp_formats.specs.LispConversions.{conversion_of, expected, target_of}
-
-abbrev pub tilde : ℕ
-tilde = 126
+use Rattle.lisp_formats.specs.LispConversions.{conversion_of, expected_kinds, target_of}
 
 -- what a directive asks for: the arguments for its parameters, and then its own
 pub record Directive : Type 0 where
@@ -43,9 +41,9 @@ allows kind parameter.Character = false
 allows kind _ = true
 
 -- the argument for a parameter
-abbrev pub taken : Kind → Parameter → List Kind
-taken kind parameter.Variable = kind ∷ []
-taken kind _ = []
+abbrev pub argument_for : Kind → Parameter → List Kind
+argument_for kind parameter.Variable = kind ∷ []
+argument_for kind _ = []
 
 abbrev pub and_then : List Kind → Option (List Kind) → Option (List Kind)
 and_then kinds None = None
@@ -56,7 +54,7 @@ abbrev pub variables : List Kind → List Parameter → Option (List Kind)
 variables kinds [] = Some []
 variables kinds (p ∷ more) =
     if allows (next_expected kinds).0 p
-    then and_then (taken (next_expected kinds).0 p) (variables (next_expected kinds).1 more) else None
+    then and_then (argument_for (next_expected kinds).0 p) (variables (next_expected kinds).1 more) else None
 
 -- ---- modifiers
 
@@ -72,22 +70,23 @@ modifiers text = (list_any is_colon (run is_modifier text), behind is_modifier t
 
 -- ---- directives
 
-abbrev pub made : Target → List ℕ → Option (List Kind) → Option (Directive × List ℕ)
-made target rest None = None
-made target rest (Some variables) = Some (record { variables = variables; target = target }, rest)
+abbrev pub directive_from : Target → List ℕ → Option (List Kind) → Option (Directive × List ℕ)
+directive_from target rest None = None
+directive_from target rest (Some variables) = Some (record { variables = variables; target = target }, rest)
 
 -- behind a directive that is not read nothing is read
-abbrev pub targeted : Conversion → List Parameter → List ℕ → Target → Option (Directive × List ℕ)
-targeted conversion parameters rest targets.Unread = Some (record { variables = []; target = targets.Unread }, [])
-targeted conversion parameters rest target = made target rest (variables (expected conversion) parameters)
+abbrev pub directive_to : Conversion → List Parameter → List ℕ → Target → Option (Directive × List ℕ)
+directive_to conversion parameters rest targets.Unread = Some (record { variables = []; target = targets.Unread }, [])
+directive_to conversion parameters rest target = directive_from target rest
+    (variables (expected_kinds conversion) parameters)
 
-abbrev pub converted : Conversion → Bool → List Parameter → List ℕ → Option (Directive × List ℕ)
-converted conversion colon parameters rest =
-    targeted conversion parameters rest (target_of conversion colon parameters)
+abbrev pub behind_parameters : Conversion → Bool → List Parameter → List ℕ → Option (Directive × List ℕ)
+behind_parameters conversion colon parameters rest =
+    directive_to conversion parameters rest (target_of conversion colon parameters)
 
 abbrev pub converted_if : Option Conversion → Bool → List Parameter → List ℕ → Option (Directive × List ℕ)
 converted_if None colon parameters rest = None
-converted_if (Some conversion) colon parameters rest = converted conversion colon parameters rest
+converted_if (Some conversion) colon parameters rest = behind_parameters conversion colon parameters rest
 
 abbrev pub behind_modifiers : Notation → List Parameter → Bool → List ℕ → Option (Directive × List ℕ)
 behind_modifiers notation parameters colon [] = None

@@ -57,7 +57,7 @@ pub(crate) enum Target {
 
 /// The conversions that both languages have.
 fn shared(letter: u8) -> Option<Conversion>
-    ensures { result ≡ spec.shared letter }
+    ensures { result ≡ spec.shared_conversion letter }
 {
     match letter {
         b'a' | b'A' | b's' | b'S' => Some(Conversion::Object),
@@ -120,7 +120,7 @@ pub(crate) fn conversion_of(notation: Notation, letter: u8) -> Option<Conversion
 
 /// The kinds of the parameters of a conversion.
 pub(crate) fn expected(conversion: Conversion) -> &'static [Kind]
-    ensures { result.now ≡ spec.expected conversion }
+    ensures { result.now ≡ spec.expected_kinds conversion }
 {
     match conversion {
         Conversion::Object | Conversion::Dollars => &[

@@ -39,7 +39,7 @@ fn allows(kind: Kind, parameter: Parameter) -> bool
 
 /// Adds the argument for a parameter, if it takes one.
 fn take(kinds: &mut Vec<Kind>, kind: Kind, parameter: Parameter) -> Result<(), AllocError>
-    ensures { OnOk result (kinds.new.items ≡ kinds.old.items ++ spec.taken kind parameter) }
+    ensures { OnOk result (kinds.new.items ≡ kinds.old.items ++ spec.argument_for kind parameter) }
 {
     if matches!(parameter, Parameter::Variable) {
         kinds.push(kind)?;
@@ -94,7 +94,7 @@ fn converted<'a>(
     rest: &'a [u8],
 ) -> Result<Option<(Directive, &'a [u8])>, AllocError>
     ensures { IfOk result (λ found. option_map (λ found. (spec.view found.0, found.1.now)) found
-        ≡ spec.converted conversion colon parameters.now rest.now) }
+        ≡ spec.behind_parameters conversion colon parameters.now rest.now) }
 {
     let target = target_of(conversion, colon, parameters);
     if matches!(target, Target::Unread) {

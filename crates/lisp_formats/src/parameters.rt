@@ -23,7 +23,7 @@ pub(crate) enum Parameter {
 
 /// Reads digits, from after a sign.
 fn read_signed(text: &[u8]) -> Option<(Parameter, &[u8])>
-    ensures { option_map (λ found. (found.0, found.1.now)) result ≡ spec.signed text.now }
+    ensures { option_map (λ found. (found.0, found.1.now)) result ≡ spec.behind_sign text.now }
 {
     match split_byte(text) {
         Some((first, rest)) if first.is_ascii_digit() => {
@@ -35,7 +35,7 @@ fn read_signed(text: &[u8]) -> Option<(Parameter, &[u8])>
 
 /// Reads a byte, from after the quote.
 fn read_quoted(text: &[u8]) -> Option<(Parameter, &[u8])>
-    ensures { option_map (λ found. (found.0, found.1.now)) result ≡ spec.quoted text.now }
+    ensures { option_map (λ found. (found.0, found.1.now)) result ≡ spec.behind_quote text.now }
 {
     match split_byte(text) {
         Some((_, rest)) => Some((Parameter::Character, rest)),

@@ -8,8 +8,7 @@ use Rattle.catalogue.specs.declared.Compiled.{Compiled}
 use Rattle.catalogue.specs.declared.LoadFault.{LoadFault}
 use Rattle.catalogue.specs.declared.LoadKind.{LoadKind}
 use Rattle.catalogue.proofs.OneMeaning.{refusal_one, means_or_refuses}
-use Rattle.mo_file.specs.MoReading.{Mo, rank}
-use Rattle.mo_file.specs.MoReading.{Refused as IsRefusedFile}
+use Rattle.mo_file.specs.MoReading.{Mo, rank, Refused as IsRefusedFile}
 use Rattle.mo_file.specs.declared.fault.MoFault.{MoFault}
 use Rattle.mo_file.specs.declared.fault.MoFault.TheVariants as mo
 use Rattle.mo_file.proofs.OneMap.{refused_map}

@@ -3,7 +3,7 @@ use Rattle.std.proofs.Common.{◌≡◌, ℕ, List, [], ◌∷◌, map, refl, ap
 use Rattle.catalogue.specs.Entry.{Entry}
 use Rattle.live_set.specs.Loads.{LoadValue, map_of}
 use Rattle.live_set.specs.Asks.{AreAnswers, HasValue, HaveAnswers, QueryValue, first_with, key_of}
-use Rattle.live_set.specs.LanguageList.{named}
+use Rattle.live_set.specs.LanguageList.{named_locales}
 use Rattle.live_set.specs.Sets.{fold, map_in}
 use Rattle.live_set.proofs.Folding.{map_in-fold}
 
@@ -24,5 +24,5 @@ pub searched_all : (loads : List LoadValue) (queries : List QueryValue) (answers
 searched_all loads queries answers all = record {
   count = all.count;
   each = λ i query text at got. subst (λ (m : List Entry). HasValue m query.ask text.now)
-      (searched loads query.domain (key_of query.ask) (named query.languages)) (all.each i query text at got);
+      (searched loads query.domain (key_of query.ask) (named_locales query.languages)) (all.each i query text at got);
 }

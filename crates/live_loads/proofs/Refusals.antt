@@ -5,8 +5,7 @@ use Rattle.catalogue.specs.Entry.{Entry}
 use Rattle.live_loads.specs.Store.{StoreValue, accepted_count, IsWithin, AreNames, HasRoom, AddsLoad, IsRefusedFor}
 use Rattle.live_loads.specs.LoadAnswers.{HasReason, HasOneReason}
 use Rattle.live_loads.specs.declared.fault.StoreFault.{StoreFault}
-use Rattle.live_loads.specs.declared.fault.StoreFault.TheVariants.{BadName, VersionsSpent, Refused, RefusedMo}
-use Rattle.live_loads.specs.declared.fault.StoreFault.TheVariants.{Memory}
+use Rattle.live_loads.specs.declared.fault.StoreFault.TheVariants.{BadName, VersionsSpent, Refused, RefusedMo, Memory}
 
 -- the store with a load of this map appended to its pending loads
 abbrev pub with_load : StoreValue → List ℕ → List ℕ → List Entry → StoreValue

@@ -12,8 +12,7 @@ use Rattle.live_set.specs.Loads.{LoadValue}
 use Rattle.live_loads.specs.Batches.{version_of}
 use Rattle.live_loads.specs.Seen.{SeenValue}
 use Rattle.live_loads.specs.declared.fault.StoreFault.{StoreFault}
-use Rattle.live_loads.specs.declared.fault.StoreFault.TheVariants.{BadName, VersionsSpent, Refused, RefusedMo}
-use Rattle.live_loads.specs.declared.fault.StoreFault.TheVariants.{Memory}
+use Rattle.live_loads.specs.declared.fault.StoreFault.TheVariants.{BadName, VersionsSpent, Refused, RefusedMo, Memory}
 use Rattle.live_loads.specs.declared.load.Room.{Room}
 
 -- all that is published, the pending loads, and the number of loads that the store takes

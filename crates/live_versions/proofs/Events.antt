@@ -7,15 +7,15 @@ use Rattle.std.proofs.lemmas.List.{append-nil}
 use Rattle.std.proofs.lemmas.List.Sums.{fold-append}
 use Rattle.std.proofs.lemmas.Bool.Decides.{nat_tests}
 use lib.Dec.{leb}
-use Rattle.live_loads.specs.Batches.{joined, version_of, StartsWith}
-use Rattle.live_versions.specs.History.{Event, State, Accept, Refuse, Publish, Enter, Learn, opened, after, state_of}
+use Rattle.live_loads.specs.Batches.{joined_loads, version_of, StartsWith}
+use Rattle.live_versions.specs.History.{Event, State, Accept, Refuse, Publish, Enter, Learn, new_store, after, state_of}
 use Rattle.live_versions.specs.History.{WasPublished, MayFollow, IsLegal, IsWhole, NeverFalls, EntersNoLess}
 use Rattle.live_versions.specs.History.{SeesWholeBatches, EntersWholeBatches}
 use Rattle.live_loads.proofs.Joining.{joined-append, begins_refl, begins_trans, begins-published}
 
 -- one more event
 state_of-snoc : (first : List Event) (e : Event) → state_of (first ++ e ∷ []) ≡ after (state_of first) e
-state_of-snoc first e = fold-append after opened first (e ∷ [])
+state_of-snoc first e = fold-append after new_store first (e ∷ [])
 
 snoc-append : (first : List Event) (e : Event) (rest : List Event) → (first ++ e ∷ []) ++ rest ≡ first ++ e ∷ rest
 snoc-append first e rest = append_assoc first (e ∷ []) rest
@@ -51,7 +51,7 @@ Fits s (Enter reader version) = version ≡ version_of s.batches
 Fits s (Learn reader version) = IsWhole s version
 Fits s _ = ⊤
 
-was_whole : (history : List Event) (version : ℕ) → WasPublished opened history version
+was_whole : (history : List Event) (version : ℕ) → WasPublished new_store history version
     → IsWhole (state_of history) version
 was_whole history version was = (
   (state_of was.0).batches,
@@ -61,7 +61,7 @@ was_whole history version was = (
   was.3,
 )
 
-fits : (most : ℕ) (first : List Event) (e : Event) → MayFollow most opened first e → Fits (state_of first) e
+fits : (most : ℕ) (first : List Event) (e : Event) → MayFollow most new_store first e → Fits (state_of first) e
 fits most first (Accept load) may = tt
 fits most first Refuse may = tt
 fits most first Publish may = tt
@@ -73,7 +73,7 @@ whole_le s version whole =
     let front = whole.0 in
     let rest = whole.1.0 in
     let sum : version_of s.batches ≡ version_of front + version_of rest = ap version_of whole.1.1
-    ∙ (ap length (joined-append front rest) ∙ length-append (joined front) (joined rest)) in
+    ∙ (ap length (joined-append front rest) ∙ length-append (joined_loads front) (joined_loads rest)) in
     omega (arith, sum, whole.2)
 
 pick : (b : Bool) (x y : ℕ) (P : ℕ → Type 0) → P x → P y → P (if b then x else y)
@@ -136,7 +136,7 @@ whole_from most first (e ∷ rest) legal all =
     (whole_from most (first ++ e ∷ []) rest (legal_on most first e rest legal)
     (whole_next most first e (legal_next most first e rest legal) all))
 
-opened_whole : SeesWhole opened
+opened_whole : SeesWhole new_store
 opened_whole reader = ([], begins_refl [], refl)
 
 pub sees_whole : SeesWholeBatches

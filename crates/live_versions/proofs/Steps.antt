@@ -9,11 +9,10 @@ use Rattle.atomic_table.proofs.Lists.{at_set, at_snoc}
 use Rattle.logbook.specs.Pages.{Book}
 use Rattle.live_versions.specs.declared.rule.Shown.{Shown}
 use Rattle.live_set.specs.Loads.{LoadValue}
-use Rattle.live_set.specs.Sets.{with_load, no_loads}
-use Rattle.live_set.specs.Sets.{fold as fold_of}
+use Rattle.live_set.specs.Sets.{with_load, no_loads, fold as fold_of}
 use Rattle.live_loads.specs.Seen.{SeenValue}
-use Rattle.live_versions.specs.SeatViews.{ViewValue, fresh}
-use Rattle.live_loads.specs.Batches.{joined, version_of, StartsWith, NoneEmpty}
+use Rattle.live_versions.specs.SeatViews.{ViewValue, fresh_view}
+use Rattle.live_loads.specs.Batches.{joined_loads, version_of, StartsWith, NoneEmpty}
 use Rattle.live_versions.specs.StoreRule.{Keeps, Sees, Only}
 use Rattle.live_loads.proofs.Joining.{full_add, joined-append, begins_refl, begins_trans, begins_nil, fold-append_of}
 
@@ -50,12 +49,12 @@ kept x old new h all = record {
   begun = λ j u at. (all j u at).1;
 }
 
-fresh_fits : (f : SeenValue) → Fits f fresh
+fresh_fits : (f : SeenValue) → Fits f fresh_view
 fresh_fits f = (tt, begins_nil f.batches)
 
 -- a new reader knows nothing
-pub admits : Admits holds fresh
-admits x views h = kept x views (views ++ fresh ∷ []) h (fits_snoc x.seen views fresh (fresh_fits x.seen)
+pub admits : Admits holds fresh_view
+admits x views h = kept x views (views ++ fresh_view ∷ []) h (fits_snoc x.seen views fresh_view (fresh_fits x.seen)
     (all_fit x views h))
 
 -- an entry takes in what is published
@@ -82,12 +81,12 @@ forks seat v x views h at = let ok = all_fit x views h seat v at in
     (fits_set x.seen views seat v ok (all_fit x views h)))
 
 -- a seat takes in what another knows
-pub merges : (seat : ℕ) (v : ViewValue) (other : ℕ) (w : ViewValue) → Merges holds seat v other w w fresh
+pub merges : (seat : ℕ) (v : ViewValue) (other : ℕ) (w : ViewValue) → Merges holds seat v other w w fresh_view
 merges seat v other w x views h at apart there =
     let ok : Fits x.seen w = ⊎_elim (λ (t : (other ≡ seat) × (w ≡ w)). absurd (apart t.0))
     (λ (t : (other ≢ seat) × (get_elem? views other ≡ some w)). all_fit x views h other w t.1)
     (at_set views seat other w w there) in
-    kept x views (set (set views seat w) other fresh) h (fits_set x.seen (set views seat w) other fresh
+    kept x views (set (set views seat w) other fresh_view) h (fits_set x.seen (set views seat w) other fresh_view
     (fresh_fits x.seen) (fits_set x.seen views seat w ok (all_fit x views h)))
 
 -- a publish adds a batch
@@ -108,11 +107,11 @@ publishes seat v x y loads set_is seen_is any room views h at =
           y.seen.batches x.seen.batches u.batches longer (h.begun j u e),
     ) in
     let ok = fits_set y.seen views seat w ((refl, tt), begins_refl y.seen.batches) others in
-    let all : joined y.seen.batches ≡ joined x.seen.batches ++ loads = ap joined grown
-    ∙ (joined-append x.seen.batches (loads ∷ []) ∙ ap (λ l. joined x.seen.batches ++ l) (append-nil loads)) in
+    let all : joined_loads y.seen.batches ≡ joined_loads x.seen.batches ++ loads = ap joined_loads grown
+    ∙ (joined-append x.seen.batches (loads ∷ []) ∙ ap (λ l. joined_loads x.seen.batches ++ l) (append-nil loads)) in
     let full : NoneEmpty y.seen.batches = subst NoneEmpty (sym grown) (full_add x.seen.batches loads h.full any) in
-    let folded : y.set ≡ fold_of (joined y.seen.batches) = set_is
-    ∙ (ap (λ s. fold with_load s loads) h.folded ∙ (sym (fold-append_of (joined x.seen.batches) loads)
+    let folded : y.set ≡ fold_of (joined_loads y.seen.batches) = set_is
+    ∙ (ap (λ s. fold with_load s loads) h.folded ∙ (sym (fold-append_of (joined_loads x.seen.batches) loads)
     ∙ ap fold_of (sym all))) in (
       w,
       record {
@@ -127,14 +126,16 @@ publishes seat v x y loads set_is seen_is any room views h at =
     )
 
 -- nothing is published at first
-pub opens : (x : Shown) → x.set ≡ no_loads → x.seen.batches ≡ [] → holds x (fresh ∷ [])
+pub opens : (x : Shown) → x.set ≡ no_loads → x.seen.batches ≡ [] → holds x (fresh_view ∷ [])
 opens x is none = record {
-  folded = is ∙ ap (λ l. fold_of (joined l)) (sym none);
+  folded = is ∙ ap (λ l. fold_of (joined_loads l)) (sym none);
   full = subst NoneEmpty (sym none) tt;
   fits = subst (λ (l : List (List LoadValue)). version_of l < 2 ^ 64) (sym none) (omega arith);
-  one_book = λ seat v at. (fits_snoc x.seen [] fresh (fresh_fits x.seen) (λ j u e. absurd (some-ne-none u (sym e))) seat
+  one_book = λ seat v at. (fits_snoc x.seen [] fresh_view (fresh_fits x.seen)
+      (λ j u e. absurd (some-ne-none u (sym e))) seat
       v at).0;
-  begun = λ seat v at. (fits_snoc x.seen [] fresh (fresh_fits x.seen) (λ j u e. absurd (some-ne-none u (sym e))) seat v
+  begun = λ seat v at. (fits_snoc x.seen [] fresh_view (fresh_fits x.seen) (λ j u e. absurd (some-ne-none u (sym e)))
+      seat v
       at).1;
 }
 
@@ -148,7 +149,7 @@ names_book seat v x y set_is seen_is views h at =
     let ok = fits_set y.seen views seat w ((refl, tt), begins_refl y.seen.batches) others in (
       w,
       record {
-        folded = set_is ∙ (h.folded ∙ ap (λ f. fold_of (joined f.batches)) (sym seen_is));
+        folded = set_is ∙ (h.folded ∙ ap (λ f. fold_of (joined_loads f.batches)) (sym seen_is));
         full = subst (λ (f : SeenValue). NoneEmpty f.batches) (sym seen_is) h.full;
         fits = subst (λ (f : SeenValue). version_of f.batches < 2 ^ 64) (sym seen_is) h.fits;
         one_book = λ j u e. (ok j u e).0;

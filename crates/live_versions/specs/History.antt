@@ -1,7 +1,7 @@
 -- The history of a store as a list of events: which may happen, and what each does.
 use Rattle.std.specs.Prelude.{◌≡◌, ⊤, ℕ, ◌+◌, ◌<◌, ◌≤◌, ◌==◌, max, if◌then◌else◌, List, [], ◌∷◌, ◌++◌, length, fold}
 use Rattle.live_set.specs.Loads.{LoadValue}
-use Rattle.live_loads.specs.Batches.{version_of, StartsWith, published}
+use Rattle.live_loads.specs.Batches.{version_of, StartsWith, after_publish}
 
 -- a load is accepted or refused; the pending loads are published; a reader enters the version that is published; a
 -- reader learns of a version that was published
@@ -19,8 +19,8 @@ pub record State : Type 0 where
   pub seen : ℕ → ℕ
 
 -- a new store: nothing is published, pending or seen
-abbrev pub opened : State
-opened = record { batches = []; pending = []; seen = λ reader. 0 }
+abbrev pub new_store : State
+new_store = record { batches = []; pending = []; seen = λ reader. 0 }
 
 -- the versions seen, with this reader's replaced
 abbrev pub with_seen : State → ℕ → ℕ → State
@@ -30,7 +30,7 @@ with_seen s reader version = record s { seen = λ other. if other == reader then
 abbrev pub after : State → Event → State
 after s (Accept load) = record s { pending = s.pending ++ load ∷ [] }
 after s Refuse = s
-after s Publish = record s { batches = published s.batches s.pending; pending = [] }
+after s Publish = record s { batches = after_publish s.batches s.pending; pending = [] }
 after s (Enter reader version) = with_seen s reader version
 after s (Learn reader version) = with_seen s reader (max (s.seen reader) version)
 
@@ -40,7 +40,7 @@ state_from start history = fold after start history
 
 -- the state after a history of a new store
 abbrev pub state_of : List Event → State
-state_of history = state_from opened history
+state_of history = state_from new_store history
 
 -- the version was published after some beginning of the history
 abbrev pub WasPublished : State → List Event → ℕ → Type 0
@@ -63,7 +63,7 @@ IsLegalFrom most start history = (first : List Event) (event : Event) (rest : Li
 
 -- each event of a new store may follow those before it
 abbrev pub IsLegal : ℕ → List Event → Type 0
-IsLegal most history = IsLegalFrom most opened history
+IsLegal most history = IsLegalFrom most new_store history
 
 -- the version is that of whole batches, counted from the first
 abbrev pub IsWhole : State → ℕ → Type 0

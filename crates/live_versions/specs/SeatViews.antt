@@ -9,5 +9,5 @@ pub record ViewValue : Type 0 where
   pub batches : List (List LoadValue)
 
 -- nothing is known or seen
-abbrev pub fresh : ViewValue
-fresh = record { books = []; batches = [] }
+abbrev pub fresh_view : ViewValue
+fresh_view = record { books = []; batches = [] }

@@ -9,7 +9,7 @@ use Rattle.live_versions.specs.declared.rule.Change.{Change}
 use Rattle.live_versions.specs.declared.rule.Change.TheVariants.{Load, Seal}
 use Rattle.live_loads.specs.Seen.{SeenValue}
 use Rattle.live_versions.specs.SeatViews.{ViewValue}
-use Rattle.live_loads.specs.Batches.{joined, version_of, StartsWith, NoneEmpty}
+use Rattle.live_loads.specs.Batches.{joined_loads, version_of, StartsWith, NoneEmpty}
 
 -- what a change does to a copy
 abbrev pub applied_to : Common → Change → Common
@@ -23,7 +23,7 @@ Only b (x ∷ xs) = (x ≡ b) × Only b xs
 
 -- the set is built from its batches, no batch is empty, and each view is a beginning of them, in this book
 pub record Keeps (set : SetValue) (seen : SeenValue) (views : List ViewValue) : Type 0 where
-  pub folded : set ≡ fold (joined seen.batches)
+  pub folded : set ≡ fold (joined_loads seen.batches)
   pub full : NoneEmpty seen.batches
   pub fits : version_of seen.batches < 2 ^ 64
   pub one_book : (seat : ℕ) (v : ViewValue) → get_elem? views seat ≡ some v → Only seen.book v.books
@@ -31,7 +31,7 @@ pub record Keeps (set : SetValue) (seen : SeenValue) (views : List ViewValue) : 
 
 -- what a reader finds out by entering
 pub record Sees (v : ViewValue) (set : SetValue) (seen : SeenValue) (w : ViewValue) : Type 0 where
-  pub folded : set ≡ fold (joined seen.batches)
+  pub folded : set ≡ fold (joined_loads seen.batches)
   pub full : NoneEmpty seen.batches
   pub fits : version_of seen.batches < 2 ^ 64
   pub later : StartsWith seen.batches v.batches

@@ -5,7 +5,7 @@ ghost use Rattle.live_set.specs.Asks.{AreAnswers, IsAnswer, maps_named, query_of
 ghost use Rattle.live_set.specs.Asks.{Plain, Context, Number, ContextNumber};
 ghost use Rattle.live_set.specs.Loads.{map_of};
 ghost use Rattle.live_set.specs.Sets.{fold};
-ghost use Rattle.live_loads.specs.Batches.{joined, version_of};
+ghost use Rattle.live_loads.specs.Batches.{joined_loads, version_of};
 ghost use Rattle.live_versions.specs.Entering.{visit_of};
 
 use crate::Version;
@@ -29,20 +29,20 @@ impl Model for Visit {
     ghost use Rattle.std.specs.Prelude.{◌≡◌, [], ◌∷◌};
     ghost use Rattle.left_right.specs.Sides.{view as known};
     ghost use Rattle.live_set.specs.Sets.{fold};
-    ghost use Rattle.live_loads.specs.Batches.{joined};
+    ghost use Rattle.live_loads.specs.Batches.{joined_loads};
     ghost use Rattle.live_loads.specs.Seen.{SeenValue};
 
     ghost Value = { SeenValue };
 
     ghost view = { λ e. e.seen };
 
-    ghost invariant = { λ e. (e.reading.part.value.set ≡ fold (joined e.seen.batches))
+    ghost invariant = { λ e. (e.reading.part.value.set ≡ fold (joined_loads e.seen.batches))
         × ((known e.reading.place).books ≡ e.seen.book ∷ []) × ((known e.reading.place).batches ≡ e.seen.batches) };
 }
 
 impl Visit {
     pub(crate) fn new(reading: StoreReading, seen: Seen) -> Visit
-        requires { (reading.part.value.set ≡ fold (joined seen.batches))
+        requires { (reading.part.value.set ≡ fold (joined_loads seen.batches))
             × ((view reading.place).books ≡ seen.book ∷ []) × ((view reading.place).batches ≡ seen.batches) }
         ensures { result ≡ seen }
     {
@@ -77,7 +77,7 @@ impl Pinned<'_> {
     /// The answer to a query (`live_set::CatalogueSet::look`).
     #[tactic(auto, using(live_loads::proofs::Looking::searched))]
     pub fn look<'a>(&'a self, query: &'a Query) -> &'a str
-        ensures { IsAnswer (joined (visit_of self.now).batches) query.now result.now }
+        ensures { IsAnswer (joined_loads (visit_of self.now).batches) query.now result.now }
     {
         self.set().look(query)
     }
@@ -89,7 +89,8 @@ impl Pinned<'_> {
         alloc: Global,
         queries: &'a [Query],
     ) -> Result<Vec<&'a str>, AllocError>
-        ensures { IfOk result (λ answers. AreAnswers (joined (visit_of self.now).batches) queries.now answers.items) }
+        ensures { IfOk result (λ answers. AreAnswers (joined_loads (visit_of self.now).batches) queries.now
+            answers.items) }
     {
         self.set().look_all(alloc, queries)
     }
@@ -98,7 +99,7 @@ impl Pinned<'_> {
     /// (`live_set::Query`), or the msgid if none has it.
     #[tactic(auto, using(live_loads::proofs::Looking::searched))]
     pub fn gettext<'a>(&'a self, domain: &str, languages: &str, id: &'a str) -> &'a str
-        ensures { IsAnswer (joined (visit_of self.now).batches) (query_of domain.now languages.now (Plain id.now))
+        ensures { IsAnswer (joined_loads (visit_of self.now).batches) (query_of domain.now languages.now (Plain id.now))
             result.now }
     {
         self.set().gettext(domain, languages, id)
@@ -113,7 +114,7 @@ impl Pinned<'_> {
         context: &str,
         id: &'a str,
     ) -> &'a str
-        ensures { IsAnswer (joined (visit_of self.now).batches)
+        ensures { IsAnswer (joined_loads (visit_of self.now).batches)
             (query_of domain.now languages.now (Context context.now id.now)) result.now }
     {
         self.set().pgettext(domain, languages, context, id)
@@ -130,7 +131,7 @@ impl Pinned<'_> {
         plural: &'a str,
         n: u64,
     ) -> &'a str
-        ensures { IsAnswer (joined (visit_of self.now).batches)
+        ensures { IsAnswer (joined_loads (visit_of self.now).batches)
             (query_of domain.now languages.now (Number id.now plural.now n)) result.now }
     {
         self.set().ngettext(domain, languages, id, plural, n)
@@ -147,7 +148,7 @@ impl Pinned<'_> {
         plural: &'a str,
         n: u64,
     ) -> &'a str
-        ensures { IsAnswer (joined (visit_of self.now).batches)
+        ensures { IsAnswer (joined_loads (visit_of self.now).batches)
             (query_of domain.now languages.now (ContextNumber context.now id.now plural.now n)) result.now }
     {
         self.set()
@@ -157,14 +158,14 @@ impl Pinned<'_> {
     /// The catalogues that a list of languages names in a domain, in order (`live_set::Languages`), for more than one
     /// look-up in the same languages. All of them are answered in the visit's version.
     pub fn languages<'a>(&'a self, domain: &'a str, languages: &'a str) -> Languages<'a>
-        ensures { result ≡ maps_named (map_of (joined (visit_of self.now).batches)) domain.now languages.now }
+        ensures { result ≡ maps_named (map_of (joined_loads (visit_of self.now).batches)) domain.now languages.now }
     {
         self.set().languages(domain, languages)
     }
 
     /// The set that the visit looks up in.
     fn set(&self) -> &CatalogueSet
-        ensures { result.now ≡ fold (joined (visit_of self.now).batches) }
+        ensures { result.now ≡ fold (joined_loads (visit_of self.now).batches) }
     {
         let visit = &self.visit;
         &visit.reading.get().set

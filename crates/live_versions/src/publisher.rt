@@ -1,7 +1,7 @@
 //! The publisher: what it loads is pending until it publishes.
 ghost use Rattle.std.specs.Prelude.{◌≡◌, ◌≢◌, [], length, drop, IfOk, OnOk, OnErr};
 ghost use Rattle.std.specs.Arc.{arc_value};
-ghost use Rattle.live_loads.specs.Batches.{version_of, published};
+ghost use Rattle.live_loads.specs.Batches.{version_of, after_publish};
 ghost use Rattle.live_loads.specs.Store.{AreNames, HasRoom, IsWithin, AddsLoad, room_of};
 
 use crate::Version;
@@ -131,7 +131,7 @@ impl Publisher {
         ensures ok { IfOk result (λ _.
             self.new.seen ≡ record {
               book = self.old.seen.book;
-              batches = published self.old.seen.batches self.old.pending;
+              batches = after_publish self.old.seen.batches self.old.pending;
             }) }
         ensures version { IfOk result (λ version. version ≡ version_of self.new.seen.batches) }
         ensures empty { IfOk result (λ _. self.new.pending ≡ []) }

@@ -4,7 +4,7 @@ ghost use Rattle.std.specs.String.{string_capacity};
 ghost use Rattle.std.specs.Borrow.{sem, RestsIfErr};
 ghost use Rattle.left_right.specs.Sides.{view};
 ghost use Rattle.live_set.specs.Asks.{IsAnswer};
-ghost use Rattle.live_loads.specs.Batches.{joined, version_of, StartsWith};
+ghost use Rattle.live_loads.specs.Batches.{joined_loads, version_of, StartsWith};
 ghost use Rattle.live_versions.specs.AnswerRoom.{IsLonger};
 ghost use Rattle.live_versions.specs.Entering.{visit_of, home_name};
 ghost use Rattle.live_versions.specs.contracts.reader.Lookups.{the_row};
@@ -117,10 +117,10 @@ impl Lookups {
     pub fn ask(&mut self, alloc: Global, query: &Query) -> Result<(Version, String), AskFault>
         ensures ok { IfOk result (λ answer.
             (answer.0 ≡ version_of self.new.batches)
-            × IsAnswer (joined self.new.batches) query.now (string_bytes answer.1)) }
+            × IsAnswer (joined_loads self.new.batches) query.now (string_bytes answer.1)) }
         ensures closed { IfErr result (λ fault. (fault ≡ AskFault.Closed) → (self.new ≡ self.old)) }
         ensures memory { IfErr result (λ fault. (fault ≡ AskFault.Memory)
-            → IsLonger (joined self.new.batches) query.now 0) }
+            → IsLonger (joined_loads self.new.batches) query.now 0) }
         ensures later { StartsWith self.new.batches self.old.batches }
         ensures book { self.new.book ≡ self.old.book }
     {
@@ -137,11 +137,12 @@ impl Lookups {
     pub fn ask_into(&mut self, query: &Query, text: &mut String) -> Result<Version, AskFault>
         ensures ok { IfOk result (λ version.
             (version ≡ version_of self.new.batches)
-            × IsAnswer (joined self.new.batches) query.now (string_bytes text.new)) }
+            × IsAnswer (joined_loads self.new.batches) query.now (string_bytes text.new)) }
         ensures closed { IfErr result (λ fault. (fault ≡ AskFault.Closed)
             → (self.new ≡ self.old) × (string_bytes text.new ≡ string_bytes text.old)) }
         ensures memory { IfErr result (λ fault. (fault ≡ AskFault.Memory)
-            → (string_bytes text.new ≡ []) × IsLonger (joined self.new.batches) query.now (string_capacity text.old)) }
+            → (string_bytes text.new ≡ []) × IsLonger (joined_loads self.new.batches) query.now
+            (string_capacity text.old)) }
         ensures room { string_capacity text.old ≤ string_capacity text.new }
         ensures later { StartsWith self.new.batches self.old.batches }
         ensures book { self.new.book ≡ self.old.book }

@@ -1,7 +1,7 @@
 //! The rule that binds publisher and readers, over the two copies of `left_right`.
 ghost use Rattle.std.specs.Prelude.{◌≡◌, MatchResult};
 ghost use Rattle.live_versions.specs.StoreRule.{Keeps, Sees, applied_to};
-ghost use Rattle.live_versions.specs.SeatViews.{fresh};
+ghost use Rattle.live_versions.specs.SeatViews.{fresh_view};
 
 use crate::seal::{Cover, Seal};
 use crate::seen::Seen;
@@ -58,11 +58,11 @@ pub(crate) struct View {
 }
 
 impl Model for View {
-    ghost use Rattle.live_versions.specs.SeatViews.{ViewValue, fresh};
+    ghost use Rattle.live_versions.specs.SeatViews.{ViewValue, fresh_view};
 
     ghost Value = { ViewValue };
 
-    ghost view = { λ _. fresh };
+    ghost view = { λ _. fresh_view };
 }
 
 /// The invariant over the shown copy and all views.
@@ -71,7 +71,7 @@ pub(crate) struct Versions;
 impl Protocol<Shown, View> for Versions {
     ghost holds = { λ x views. Keeps x.set x.seen views };
 
-    ghost first = { fresh };
+    ghost first = { fresh_view };
 }
 
 /// Entering: the reader's view becomes what is published.

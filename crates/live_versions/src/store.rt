@@ -31,11 +31,11 @@ impl Split<View> for Same {
 }
 
 impl Join<View> for Same {
-    ghost use Rattle.live_versions.specs.SeatViews.{fresh};
+    ghost use Rattle.live_versions.specs.SeatViews.{fresh_view};
 
     ghost both = { λ v w. w };
 
-    ghost spent = { fresh };
+    ghost spent = { fresh_view };
 }
 
 /// Makes a reader of the writer's book that has seen these batches.

@@ -1,12 +1,11 @@
 -- A free slot is found: a string tries all slots, and they aren't all taken.
-use Rattle.std.proofs.Common.{◌≡◌, ◌≢◌, ℕ, zero, suc, ◌+◌, ◌-◌, ◌*◌, ◌%◌, ◌<◌, ◌≤◌}
-use Rattle.std.proofs.Common.{List, length, set, get_or, replicate, refl}
-use Rattle.std.proofs.Common.{sym, ap, ◌∙◌, subst, arith}
+use Rattle.std.proofs.Common.{◌≡◌, ◌≢◌, ℕ, zero, suc, ◌+◌, ◌-◌, ◌*◌, ◌%◌, ◌<◌, ◌≤◌, List, length, set, get_or}
+use Rattle.std.proofs.Common.{replicate, refl, sym, ap, ◌∙◌, subst, arith}
 use Rattle.std.specs.Prelude.{slice_index}
 use Rattle.std.proofs.lemmas.List.{length-set, get_or-set_other}
 use Rattle.std.proofs.lemmas.List.Sums.{sum_by-set, sum_by-cons}
 use Rattle.std.proofs.Math.Nat.{mod-lt}
-use Rattle.mo_dependent.specs.Hashing.{IsPrime, probe, taken, one_if_taken}
+use Rattle.mo_dependent.specs.Hashing.{IsPrime, probe, taken_count, one_if_taken}
 use Rattle.mo_dependent.proofs.Primes.{apart}
 
 one_from : (n : ℕ) → n ≢ 0 → one_if_taken n ≡ 1
@@ -17,11 +16,12 @@ one_at_most : (n : ℕ) → one_if_taken n ≤ 1
 one_at_most zero = omega arith
 one_at_most (suc n) = omega arith
 
-pub none_taken : (n : ℕ) → taken (replicate n 0) ≡ 0
+pub none_taken : (n : ℕ) → taken_count (replicate n 0) ≡ 0
 none_taken zero = refl
 none_taken (suc n) = omega (arith, sum_by-cons one_if_taken 0 (replicate n 0), none_taken n)
 
-pub one_more_taken : (slots : List ℕ) (slot n : ℕ) → slot < length slots → taken (set slots slot n) ≤ taken slots + 1
+pub one_more_taken : (slots : List ℕ) (slot n : ℕ) → slot < length slots
+    → taken_count (set slots slot n) ≤ taken_count slots + 1
 one_more_taken slots slot n lt =
     omega (arith, sum_by-set one_if_taken slots slot n 0 lt, one_at_most n)
 
@@ -54,7 +54,7 @@ module _ (slots : List ℕ) (h : ℕ) (prime : IsPrime (length slots)) (some : 2
       (omega (arith, le)) lt (sym same) in
       get_or-set_other (cleared k) (at k) (at j) 0 0 other ∙ kept k j (omega (arith, le)) lt
 
-  counted : (k : ℕ) → k ≤ size → taken (cleared k) + k ≡ taken slots
+  counted : (k : ℕ) → k ≤ size → taken_count (cleared k) + k ≡ taken_count slots
   counted zero le = omega arith
   counted (suc k) le =
       let within : at k < length (cleared k) = subst (λ n. at k < n) (sym (length-cleared k))
@@ -68,5 +68,5 @@ module _ (slots : List ℕ) (h : ℕ) (prime : IsPrime (length slots)) (some : 2
         counted k (omega (arith, le)),
       )
 
-  pub all_taken : length slots ≤ taken slots
+  pub all_taken : length slots ≤ taken_count slots
   all_taken = omega (arith, counted size (omega arith))

@@ -1,7 +1,6 @@
 -- One step of each loop: what is left of a list after an element more.
-use Rattle.std.proofs.Common.{◌≡◌, ℕ, suc, ◌+◌, ◌-◌, ◌*◌, ◌<◌, ◌≤◌, List, [], ◌∷◌}
-use Rattle.std.proofs.Common.{◌++◌, length, map, drop, take, get_or}
-use Rattle.std.proofs.Common.{Some, slice_get, refl, sym, ap, ◌∙◌, subst, arith, length-append}
+use Rattle.std.proofs.Common.{◌≡◌, ℕ, suc, ◌+◌, ◌-◌, ◌*◌, ◌<◌, ◌≤◌, List, [], ◌∷◌, ◌++◌, length, map, drop, take}
+use Rattle.std.proofs.Common.{get_or, Some, slice_get, refl, sym, ap, ◌∙◌, subst, arith, length-append}
 use Rattle.std.specs.Prelude.{if◌then◌else◌, true, false}
 use Rattle.std.specs.List.{AllByRecursion, sum_by}
 use Rattle.std.specs.Str.{bytes_eq}
@@ -14,7 +13,7 @@ use Rattle.mo_image.proofs.Lists.{at_index, slice_get-map}
 use Rattle.mo_image.proofs.MoLengths.{length-with_nul}
 use Rattle.mo_dependent.specs.Splits.{end_of, name_at, pieces_from, LieFrom, HasSplits, IsSplit, texts, text_of}
 use Rattle.mo_dependent.specs.Splits.{text_pool, Split, SplitText, Dependent}
-use Rattle.mo_dependent.specs.Segments.{index_of, add_name, numbered, names_of, uses, segment_rows}
+use Rattle.mo_dependent.specs.Segments.{index_of, add_name, names_after, names_of, uses, segment_rows}
 use Rattle.mo_dependent.specs.Hashing.{hash_from, hash_step}
 use Rattle.mo_dependent.specs.Layout.{descriptor_len, pointers, descriptors, rows, rows_from}
 
@@ -139,7 +138,7 @@ module _ (text : SplitText) (from i : ℕ) (s : Split) (found : slice_get text.s
 
 -- ---- uses
 
-pub numbered-append : (names a b : List (List ℕ)) → numbered names (a ++ b) ≡ numbered (numbered names a) b
+pub numbered-append : (names a b : List (List ℕ)) → names_after names (a ++ b) ≡ names_after (names_after names a) b
 numbered-append names [] b = refl
 numbered-append names (n ∷ ns) b = numbered-append (add_name names n) ns b
 
@@ -155,26 +154,26 @@ uses_next messages i m found = ap uses (drop_found messages i m found)
 -- after one message more
 pub message_numbered : (messages : List Dependent) (i : ℕ) (m : Dependent) (names after_original after all
     : List (List ℕ)) → slice_get messages i ≡ Some m
-    → numbered names (uses (drop i messages)) ≡ all
-    → after_original ≡ numbered names (names_of m.original)
-    → after ≡ numbered after_original (names_of m.translation)
-    → numbered after (uses (drop (i + 1) messages)) ≡ all
+    → names_after names (uses (drop i messages)) ≡ all
+    → after_original ≡ names_after names (names_of m.original)
+    → after ≡ names_after after_original (names_of m.translation)
+    → names_after after (uses (drop (i + 1) messages)) ≡ all
 message_numbered messages i m names after_original after all found so_far original translation =
     let rest = uses (drop (i + 1) messages) in
-    ap (λ ns. numbered ns rest) (translation ∙ ap (λ ns. numbered ns (names_of m.translation)) original
+    ap (λ ns. names_after ns rest) (translation ∙ ap (λ ns. names_after ns (names_of m.translation)) original
     ∙ sym (numbered-append names (names_of m.original) (names_of m.translation)))
     ∙ sym (numbered-append names (names_of m.original ++ names_of m.translation) rest)
-    ∙ sym (ap (numbered names) (uses_next messages i m found)) ∙ so_far
+    ∙ sym (ap (names_after names) (uses_next messages i m found)) ∙ so_far
 
 -- after one use more
 pub use_numbered : (text : SplitText) (i : ℕ) (s : Split) (names after all : List (List ℕ))
     → slice_get text.splits.items i ≡ Some s
-    → numbered names (drop i (names_of text)) ≡ all
+    → names_after names (drop i (names_of text)) ≡ all
     → after ≡ add_name names (name_at text.bytes.items s)
-    → numbered after (drop (i + 1) (names_of text)) ≡ all
+    → names_after after (drop (i + 1) (names_of text)) ≡ all
 use_numbered text i s names after all found so_far added =
-    ap (λ ns. numbered ns (drop (i + 1) (names_of text))) added
-    ∙ sym (ap (numbered names) (drop_mapped (name_at text.bytes.items) text.splits.items i s found)) ∙ so_far
+    ap (λ ns. names_after ns (drop (i + 1) (names_of text))) added
+    ∙ sym (ap (names_after names) (drop_mapped (name_at text.bytes.items) text.splits.items i s found)) ∙ so_far
 
 -- the splits of a text lie in it
 pub lies_at : (text : SplitText) (i : ℕ) (s : Split) → HasSplits text → slice_get text.splits.items i ≡ Some s

@@ -1,7 +1,6 @@
 -- The hash table of a file (GNU gettext manual, "MO Files").
-use Rattle.std.specs.Prelude.{◌≡◌, ◌≢◌, ℕ, zero, suc, ◌+◌, ◌-◌, ◌*◌, ◌/◌, ◌%◌, ◌<◌, ◌≤◌, nat_lt}
-use Rattle.std.specs.Prelude.{if◌then◌else◌, bit_xor, List, [], ◌∷◌, length, replicate}
-use Rattle.std.specs.Prelude.{slice_index, slice_get, set, IfSome}
+use Rattle.std.specs.Prelude.{◌≡◌, ◌≢◌, ℕ, zero, suc, ◌+◌, ◌-◌, ◌*◌, ◌/◌, ◌%◌, ◌<◌, ◌≤◌, nat_lt, if◌then◌else◌, bit_xor}
+use Rattle.std.specs.Prelude.{List, [], ◌∷◌, length, replicate, slice_index, slice_get, set, IfSome}
 use Rattle.std.specs.List.{sum_by}
 
 -- the hash function of P. J. Weinberger, of 32 bits: each byte shifts the value by 4 bits, and the 4 bits at the top go
@@ -45,8 +44,8 @@ abbrev pub one_if_taken : ℕ → ℕ
 one_if_taken zero = 0
 one_if_taken (suc n) = 1
 
-abbrev pub taken : List ℕ → ℕ
-taken slots = sum_by one_if_taken slots
+abbrev pub taken_count : List ℕ → ℕ
+taken_count slots = sum_by one_if_taken slots
 
 pub record IsPrime (n : ℕ) : Type 0 where
   pub some : 1 < n

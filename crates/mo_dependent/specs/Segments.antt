@@ -14,9 +14,9 @@ abbrev pub add_name : List (List ℕ) → List ℕ → List (List ℕ)
 add_name names name = if nat_lt (index_of names name) (length names) then names else names ++ name ∷ []
 
 -- the names after some uses
-abbrev pub numbered : List (List ℕ) → List (List ℕ) → List (List ℕ)
-numbered names [] = names
-numbered names (n ∷ ns) = numbered (add_name names n) ns
+abbrev pub names_after : List (List ℕ) → List (List ℕ) → List (List ℕ)
+names_after names [] = names
+names_after names (n ∷ ns) = names_after (add_name names n) ns
 
 -- what a text uses
 abbrev pub names_of : SplitText → List (List ℕ)
@@ -27,7 +27,7 @@ abbrev pub uses : List Dependent → List (List ℕ)
 uses messages = flat_map (λ m. names_of m.original ++ names_of m.translation) messages
 
 abbrev pub segments : List Dependent → List (List ℕ)
-segments messages = numbered [] (uses messages)
+segments messages = names_after [] (uses messages)
 
 -- the table of the segments, whose strings begin at this offset: the length with the NUL, and the offset
 abbrev pub segment_rows : ℕ → List (List ℕ) → List ℕ

@@ -3,7 +3,7 @@ ghost use Rattle.std.specs.Prelude.{◌≡◌, ◌*◌, ◌<◌, ◌≤◌, ◌^
 ghost use Rattle.std.specs.List.{flat_map};
 ghost use Rattle.mo_image.specs.Entry.{key};
 ghost use Rattle.mo_image.specs.MoFile.{most_file, word};
-ghost use Rattle.mo_dependent.specs.Hashing.{hash, hash_step, probe, taken, IsFirstFree, IsHashTable, IsPrime};
+ghost use Rattle.mo_dependent.specs.Hashing.{hash, hash_step, probe, taken_count, IsFirstFree, IsHashTable, IsPrime};
 
 use crate::words::push_word;
 use mo_image::Image;
@@ -45,7 +45,7 @@ fn first_free(slots: &[u32], hash: u32) -> usize
     requires some { 2 < length slots.now }
     requires small { length slots.now ≤ most_file }
     requires prime { IsPrime (length slots.now) }
-    requires free { taken slots.now < length slots.now }
+    requires free { taken_count slots.now < length slots.now }
     ensures free { IsFirstFree slots.now hash result }
     ensures within { result < length slots.now }
 {

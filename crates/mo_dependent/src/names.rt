@@ -4,7 +4,7 @@ ghost use Rattle.std.specs.List.{AllByRecursion};
 ghost use Rattle.std.specs.Str.{bytes_eq};
 ghost use Rattle.mo_image.specs.MoFile.{pool};
 ghost use Rattle.mo_dependent.specs.Splits.{HasSplits, IsSplit};
-ghost use Rattle.mo_dependent.specs.Segments.{index_of, add_name, numbered, names_of, segments, segment_rows};
+ghost use Rattle.mo_dependent.specs.Segments.{index_of, add_name, names_after, names_of, segments, segment_rows};
 
 use crate::split::{Dependent, SplitText, message_at, name_at, split_at, split_count};
 use crate::words::push_word;
@@ -52,7 +52,7 @@ fn add_name<'a>(names: &mut Vec<&'a [u8]>, name: &'a [u8]) -> Result<(), AllocEr
 fn add_names<'a>(names: &mut Vec<&'a [u8]>, text: &'a SplitText) -> Result<(), AllocError>
     requires { HasSplits text.now }
     ensures { OnOk result (map (λ n. n.now) names.new.items
-        ≡ numbered (map (λ n. n.now) names.old.items) (names_of text.now)) }
+        ≡ names_after (map (λ n. n.now) names.old.items) (names_of text.now)) }
 {
     'splits: for i in 0..split_count(text) {
         add_name(names, name_at(text.bytes.as_slice(), split_at(text, i)))?;

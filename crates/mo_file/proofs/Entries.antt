@@ -13,9 +13,8 @@ pub use Rattle.mo_image.proofs.Originals.{key_of_original, plural_of_original, e
 pub use Rattle.mo_image.proofs.Originals.{original_is, translation_is}
 use Rattle.mo_file.specs.MoReading.{before_nul, IsOriginalText, IsTranslationText, HasLawfulForms}
 use Rattle.mo_file.specs.Pairs.{plural_part, entry_of}
-use Rattle.mo_tables.proofs.Cuts.{is, offset, holds, front_lacks, absent, count_none}
-use Rattle.mo_tables.proofs.Cuts.{behind_lacks, LacksByte-take, LacksByte-drop}
-use Rattle.mo_tables.proofs.Cuts.{front_utf8, behind_utf8, parts_are_texts}
+use Rattle.mo_tables.proofs.Cuts.{is, offset, holds, front_lacks, absent, count_none, behind_lacks, LacksByte-take}
+use Rattle.mo_tables.proofs.Cuts.{LacksByte-drop, front_utf8, behind_utf8, parts_are_texts}
 
 abbrev cut_at : ℕ → List ℕ → Bool → Option (List ℕ × List ℕ)
 cut_at byte text test = cond test (Some (before_first (is byte) text, after_first (is byte) text)) None

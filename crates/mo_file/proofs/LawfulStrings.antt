@@ -3,9 +3,8 @@ use Rattle.std.proofs.Common.{◌≡◌, ℕ, ◌+◌, ◌≤◌, List, [], ◌�
 use Rattle.std.specs.Prelude.{IfSome}
 use Rattle.std.specs.List.{AllByRecursion, join_with_byte, count_by}
 use Rattle.std.proofs.lemmas.List.Sums.{sum_by-append}
-use Rattle.catalogue.specs.Entry.{Entry, key, key_bytes, with_plural, original, translation}
-use Rattle.catalogue.specs.Entry.{LacksByte, IsText, IsKeyText}
-use Rattle.catalogue.specs.Entry.{HasForms, IsLawfulEntry}
+use Rattle.catalogue.specs.Entry.{Entry, key, key_bytes, with_plural, original, translation, LacksByte, IsText}
+use Rattle.catalogue.specs.Entry.{IsKeyText, HasForms, IsLawfulEntry}
 use Rattle.mo_image.proofs.EntryParts.{key_lacks_nul}
 use Rattle.mo_image.proofs.Originals.{original_utf8, translation_utf8}
 use Rattle.mo_file.specs.MoReading.{before_nul, IsOriginalText, IsTranslationText, HasLawfulForms}

@@ -18,7 +18,7 @@ use Rattle.mo_file.specs.MoReading.{Fits, PassesBelow, Mo, IsMoFile}
 use Rattle.mo_file.specs.declared.fault.MoFault.{MoFault}
 use Rattle.mo_file.specs.declared.fault.MoFault.TheVariants.{BadText, Forms, Order, Charset, Swollen}
 use Rattle.mo_tables.proofs.Cuts.{first_form_is}
-use Rattle.mo_file.specs.Pairs.{entry_of, paired_entries, named as named_rows, named_in}
+use Rattle.mo_file.specs.Pairs.{entry_of, paired_entries, entries_of_rows as named_rows, named_in}
 use Rattle.mo_file.proofs.Entries.{key_is, original_is, translation_is, lawful_entry}
 use Rattle.mo_tables.proofs.RowLemmas.{first_row, later_rows, strings_split}
 

@@ -6,10 +6,10 @@ use Rattle.mo_file.specs.Tables.{strings}
 use Rattle.mo_file.specs.MoReading.{count, originals_start, translations_start}
 
 -- the entries of the n rows of two tables
-abbrev pub named : (ℕ → List ℕ → ℕ) → List ℕ → ℕ → ℕ → ℕ → List Entry
-named number bytes o t n = paired_entries (strings number bytes o n) (strings number bytes t n)
+abbrev pub entries_of_rows : (ℕ → List ℕ → ℕ) → List ℕ → ℕ → ℕ → ℕ → List Entry
+entries_of_rows number bytes o t n = paired_entries (strings number bytes o n) (strings number bytes t n)
 
 -- the entries of a file
 abbrev pub named_in : (ℕ → List ℕ → ℕ) → List ℕ → List Entry
-named_in number bytes = named number bytes (originals_start number bytes) (translations_start number bytes)
+named_in number bytes = entries_of_rows number bytes (originals_start number bytes) (translations_start number bytes)
     (count number bytes)

@@ -4,7 +4,7 @@ ghost use Rattle.std.specs.Str.{IsUtf8};
 ghost use Rattle.mo_file.specs.Tables.{string_at};
 ghost use Rattle.mo_file.specs.MoReading.{table_at, file_by, StringLies, before_nul, TableLies, AreOriginalTexts};
 ghost use Rattle.mo_file.specs.MoReading.{AreTranslationTexts, PassesBelow, Refused, Mo};
-ghost use Rattle.mo_file.specs.Pairs.{plural_part, entry_of, named, named_in};
+ghost use Rattle.mo_file.specs.Pairs.{plural_part, entry_of, entries_of_rows, named_in};
 
 use crate::fault::MoFault;
 use crate::own::is_own;
@@ -59,7 +59,7 @@ fn entries<'a, T: ByteOrder>(
     requires translations { TableLies (table_at T.number_of bytes.now translations n) }
     requires original_texts { AreOriginalTexts (table_at T.number_of bytes.now originals n) }
     requires translation_texts { AreTranslationTexts (table_at T.number_of bytes.now translations n) }
-    ensures { IfOk result (λ v. v.items ≡ named T.number_of bytes.now originals translations n) }
+    ensures { IfOk result (λ v. v.items ≡ entries_of_rows T.number_of bytes.now originals translations n) }
 {
     let mut entries = Vec::with_capacity(alloc, n)?;
     for i in 0..n {

@@ -6,10 +6,10 @@ use byteorder::ByteOrder;
 
 /// Reads a word of 32 bits.
 #[inline]
-pub(crate) fn word<T: ByteOrder>(bytes: &[u8], place: usize) -> usize
-    requires { place + 4 ≤ length bytes.now }
-    ensures value { result ≡ word_at T.number_of bytes.now place }
+pub(crate) fn word<T: ByteOrder>(bytes: &[u8], offset: usize) -> usize
+    requires { offset + 4 ≤ length bytes.now }
+    ensures value { result ≡ word_at T.number_of bytes.now offset }
     ensures small { result < 2 ^ 32 }
 {
-    T::read_u32(&bytes[place..]) as usize
+    T::read_u32(&bytes[offset..]) as usize
 }

@@ -6,7 +6,7 @@ use Rattle.clap.specs.declared.error.kind.ErrorKind.{ErrorKind}
 use Rattle.catalogue.specs.Meaning.{Means, Refuses}
 use Rattle.catalogue.specs.declared.LoadFault.{LoadFault}
 use Rattle.catalogue.proofs.OneMeaning.{meaning_one, means_or_refuses, refusal_one}
-use Rattle.msgfmt_words.specs.Words.{AreFaulty, AreTaken, AskForHelp, Asked, asked}
+use Rattle.msgfmt_words.specs.Words.{AreFaulty, AreTaken, AskForHelp, Asked, request_in}
 use Rattle.devices.specs.Devices.{IsFront, InputSeen}
 use Rattle.msgfmt_tool.specs.Runs.{FilesSeen, IsRefused, MakesFile, Reads, Run, Runs, is_standard, most_read}
 use Rattle.msgfmt_tool.specs.Laws.{BeginAlike, IsSettled}
@@ -105,7 +105,7 @@ status_one words run other Done (Failed NoInput) alike s t (told, inr p) q =
 status_one words run other Done (Failed (Refused f)) alike s t (told, inl p) q =
     absurd (help_not_taken words p.asks q.0)
 status_one words run other Done (Failed (Refused f)) alike s t (told, inr p) q =
-    absurd (makes_or_refused run other alike (asked words) f p.1 q.1)
+    absurd (makes_or_refused run other alike (request_in words) f p.1 q.1)
 status_one words run other (Failed Words) Done alike s t p (told, inl q) = absurd (not_both words p.0 q.asks)
 status_one words run other (Failed Words) Done alike s t p (told, inr q) = absurd (faulty_not_taken words p.0 q.0)
 status_one words run other (Failed Words) (Failed Words) alike s t p q = refl
@@ -122,13 +122,13 @@ status_one words run other (Failed NoInput) (Failed (Refused f)) alike s t p q =
 status_one words run other (Failed (Refused e)) Done alike s t p (told, inl q) =
     absurd (help_not_taken words q.asks p.0)
 status_one words run other (Failed (Refused e)) Done alike s t p (told, inr q) =
-    absurd (refused_or_makes run other alike (asked words) e p.1 q.1)
+    absurd (refused_or_makes run other alike (request_in words) e p.1 q.1)
 status_one words run other (Failed (Refused e)) (Failed Words) alike s t p q =
     absurd (faulty_not_taken words q.0 p.0)
 status_one words run other (Failed (Refused e)) (Failed NoInput) alike s t p q =
     absurd (named _ p.1.name q.1.0 p.1.input)
 status_one words run other (Failed (Refused e)) (Failed (Refused f)) alike s t p q =
-    ap (λ x. Failed (Refused x)) (refusals_one run other alike (asked words) e f p.1 q.1)
+    ap (λ x. Failed (Refused x)) (refusals_one run other alike (request_in words) e f p.1 q.1)
 status_one words run other (Failed CannotRead) status alike s t p q = absurd s
 status_one words run other (Failed CannotWrite) status alike s t p q = absurd s
 status_one words run other (Failed ErrorOutput) status alike s t p q = absurd s

@@ -5,7 +5,7 @@ use Rattle.devices.specs.Devices.{RisesBy, InputSeen, OutputSeen}
 use Rattle.devices.specs.Files.{KeepsLog, Log, Logs, MayLog}
 use Rattle.catalogue.specs.MoFile.{spelling}
 use Rattle.catalogue.specs.declared.Compiled.{Compiled}
-use Rattle.msgfmt_words.specs.Words.{AreTaken, Asked, asked}
+use Rattle.msgfmt_words.specs.Words.{AreTaken, Asked, request_in}
 use Rattle.msgfmt_tool.specs.Runs.{Change, Compiles, Fails, FailsToWarn, FailsToWrite, FilesSeen}
 use Rattle.msgfmt_tool.specs.Runs.{IsUnwritable, IsUnwritten, MakesFile, MakesFileFirst, Run, Runs, Writes, is_standard}
 use Rattle.msgfmt_tool.specs.RunSteps.{CompilesNamed, Delivers, EndsCompiling, EndsTelling, Tells, Works}
@@ -248,7 +248,7 @@ module _ (files : Change FilesSeen) (input : Change InputSeen) (output : Change 
   fails_on a Memory h = memory_on a h
 
   module _ (words : List (List ℕ)) (taken : AreTaken words) where
-    failed : (cause : Cause) → Fails told (asked words) cause → Runs told words (Failed cause)
+    failed : (cause : Cause) → Fails told (request_in words) cause → Runs told words (Failed cause)
     failed Words h = absurd h
     failed NoInput h = (taken, h)
     failed CannotRead h = (taken, h)
@@ -258,7 +258,7 @@ module _ (files : Change FilesSeen) (input : Change InputSeen) (output : Change 
     failed Memory h = inr (inr (taken, h))
 
     -- the work ended, and that was reported
-    pub ended : {T : Type 0} (a : Asked) (is : a ≡ asked words) (done : Result T Cause) (status : Status)
+    pub ended : {T : Type 0} (a : Asked) (is : a ≡ request_in words) (done : Result T Cause) (status : Status)
         → Works worked a done → Tells (between e' e'') done status → Runs told words status
     ended a is (Ok u) status works tells =
         subst (λ s. Runs told words s) (sym tells.1)

@@ -8,7 +8,7 @@ use Rattle.clap.specs.Kinds.{Kinds}
 use Rattle.clap.specs.declared.error.kind.ErrorKind.{ErrorKind}
 use Rattle.catalogue.specs.MoFile.{spelling}
 use Rattle.catalogue.proofs.SomeMeaning.{some_meaning}
-use Rattle.msgfmt_words.specs.Words.{AreTaken, AskForHelp, asked, word_faults}
+use Rattle.msgfmt_words.specs.Words.{AreTaken, AskForHelp, request_in, word_faults}
 use Rattle.devices.specs.Devices.{IsFront, InputSeen, OutputSeen}
 use Rattle.msgfmt_tool.specs.Runs.{FilesSeen, Reads, Run, Writes, is_standard, most_read}
 use Rattle.msgfmt_tool.specs.Laws.{SettledRun}
@@ -119,13 +119,13 @@ module _ (words : List (List ℕ)) (files : FilesSeen) (input : InputSeen) (outp
       })
 
   module _ (taken : AreTaken words) where
-    named : (name : List ℕ) → (asked words).input ≡ Some name → ⊥
+    named : (name : List ℕ) → (request_in words).input ≡ Some name → ⊥
     named name is =
         let (text, after, reads) = read (is_standard name) files input name in
-        some_meaning text (asked words).options
+        some_meaning text (request_in words).options
         (λ compiled means.
-        let (files_after, output_after, writes) = written (is_standard (asked words).output) files output
-        (asked words).output (spelling compiled.catalogue) in
+        let (files_after, output_after, writes) = written (is_standard (request_in words).output) files output
+        (request_in words).output (spelling compiled.catalogue) in
         none (record {
           run = run_over (between files files_after) (between input after) (between output output_after) (between 0 0);
           files_are = refl;
@@ -165,7 +165,7 @@ module _ (words : List (List ℕ)) (files : FilesSeen) (input : InputSeen) (outp
           );
         }))
 
-    worked : (name : Option (List ℕ)) → (asked words).input ≡ name → ⊥
+    worked : (name : Option (List ℕ)) → (request_in words).input ≡ name → ⊥
     worked None is = none (record {
       run = idle;
       files_are = refl;
@@ -178,7 +178,7 @@ module _ (words : List (List ℕ)) (files : FilesSeen) (input : InputSeen) (outp
     worked (Some name) is = named name is
 
   answered : (faults : Kinds) → word_faults words ≡ faults → One faults → ⊥
-  answered [] is one = worked is (asked words).input refl
+  answered [] is one = worked is (request_in words).input refl
   answered (k ∷ []) is one = faulty k is
   answered (k ∷ l ∷ faults) is one = absurd one.one
 

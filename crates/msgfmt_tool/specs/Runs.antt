@@ -8,7 +8,7 @@ use Rattle.catalogue.specs.MoFile.{spelling}
 use Rattle.catalogue.specs.Meaning.{Means, Refuses}
 use Rattle.catalogue.specs.declared.Compiled.{Compiled}
 use Rattle.catalogue.specs.declared.LoadFault.{LoadFault}
-use Rattle.msgfmt_words.specs.Words.{Asked, AreFaulty, AreTaken, AskForHelp, asked}
+use Rattle.msgfmt_words.specs.Words.{Asked, AreFaulty, AreTaken, AskForHelp, request_in}
 use Rattle.msgfmt_tool.specs.declared.outcome.Cause.{Cause}
 use Rattle.msgfmt_tool.specs.declared.outcome.Cause.TheVariants.{Words, NoInput, CannotRead, Refused, CannotWrite}
 use Rattle.msgfmt_tool.specs.declared.outcome.Cause.TheVariants.{ErrorOutput, Memory}
@@ -206,9 +206,9 @@ pub record HelpFails (run : Run) (words : List (List ℕ)) : Type 0 where
 -- what a run of these arguments did, by its status
 abbrev pub Runs : Run → List (List ℕ) → Status → Type 0
 Runs run words Done =
-    TellsAll run.error_failures × (Helps run words ⊎ (AreTaken words × MakesFile run (asked words)))
+    TellsAll run.error_failures × (Helps run words ⊎ (AreTaken words × MakesFile run (request_in words)))
 Runs run words (Failed Words) = AreFaulty words × IsUntouched run
-Runs run words (Failed CannotWrite) = HelpFails run words ⊎ (AreTaken words × Fails run (asked words) CannotWrite)
+Runs run words (Failed CannotWrite) = HelpFails run words ⊎ (AreTaken words × Fails run (request_in words) CannotWrite)
 Runs run words (Failed Memory) =
-    IsUntouched run ⊎ (HelpFails run words ⊎ (AreTaken words × Fails run (asked words) Memory))
-Runs run words (Failed cause) = AreTaken words × Fails run (asked words) cause
+    IsUntouched run ⊎ (HelpFails run words ⊎ (AreTaken words × Fails run (request_in words) Memory))
+Runs run words (Failed cause) = AreTaken words × Fails run (request_in words) cause

@@ -71,8 +71,8 @@ asked_by rows = record {
 }
 
 -- what the arguments ask for
-abbrev pub asked : List (List ℕ) → Asked
-asked words = asked_by (matches_of msgfmt words)
+abbrev pub request_in : List (List ℕ) → Asked
+request_in words = asked_by (matches_of msgfmt words)
 
 -- ---- arguments that are refused
 

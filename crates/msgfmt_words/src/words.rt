@@ -1,7 +1,7 @@
 //! What the arguments of the command line ask for.
 ghost use Rattle.std.specs.Prelude.{◌≡◌, IfOk, IfErr, codes, false, map, string_bytes, unwrap_or};
 ghost use Rattle.clap.specs.Words.{app_of, first_value, found_of, kind_of, new_app, rows_of, rule_of};
-ghost use Rattle.msgfmt_words.specs.Words.{AreTaken, asked, asked_by, is_true, msgfmt, msgfmt_flags};
+ghost use Rattle.msgfmt_words.specs.Words.{AreTaken, request_in, asked_by, is_true, msgfmt, msgfmt_flags};
 ghost use Rattle.msgfmt_words.specs.Words.{flag_rule, input_rule, letter_flag_rule, output_rule};
 ghost use Rattle.msgfmt_words.specs.Requests.{AnswersKind, Explains, asked_in};
 
@@ -173,7 +173,7 @@ fn fault_of(alloc: Global, error: &clap::Error) -> WordsFault
 /// What the arguments ask for. The first one is the program's name.
 pub fn parse<'a>(alloc: Global, words: &'a [String]) -> Result<Request<'a>, WordsFault>
     ensures taken { IfOk result (λ r. AreTaken (map string_bytes words.entry.now)) }
-    ensures asked { IfOk result (λ r. asked_in r ≡ asked (map string_bytes words.entry.now)) }
+    ensures asked { IfOk result (λ r. asked_in r ≡ request_in (map string_bytes words.entry.now)) }
     ensures refused { IfErr result (Explains (map string_bytes words.entry.now)) }
 {
     let Ok(command) = command(alloc) else {

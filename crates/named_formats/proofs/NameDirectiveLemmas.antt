@@ -10,7 +10,7 @@ use Rattle.python_brace_format.specs.BraceFields.{is_letter, is_word}
 use Rattle.python_brace_format.specs.BraceSpecifiers.{open_brace, close_brace}
 use Rattle.named_formats.specs.declared.Notation.{Notation}
 use Rattle.named_formats.specs.declared.Notation.TheVariants.{PerlBrace, Shell}
-use Rattle.named_formats.specs.NameDirectives.{mark, split_name, closed, split_closed_name, shell, name_in}
+use Rattle.named_formats.specs.NameDirectives.{mark, split_name, with_brace, split_closed_name, shell, name_in}
 use Rattle.named_formats.specs.NameDirectives.{behind_plain, DirectiveAt}
 
 -- ---- what follows is no longer than the text
@@ -35,7 +35,7 @@ name_within (b ∷ more) name rest e = elim (cases_Bool (is_letter b)) [
   | inr other ↦ absurd (cc (rw other at e))
 ]
 
-closed_within : (text : List ℕ) (found : Option (List ℕ × List ℕ)) → Within text found → Within text (closed found)
+closed_within : (text : List ℕ) (found : Option (List ℕ × List ℕ)) → Within text found → Within text (with_brace found)
 closed_within text None within name rest e = absurd (cc e)
 closed_within text (Some (found, [])) within name rest e = absurd (cc e)
 closed_within text (Some (found, b ∷ more)) within name rest e = elim (cases_Bool (b == close_brace)) [

@@ -1,14 +1,12 @@
 -- Directives that name an argument, and what each asks for (GNU gettext manual, "Perl Format Strings", "Shell Format
 -- Strings"; POSIX, "Shell Command Language", 2.6.2, "Parameter Expansion"; Perl's Locale::TextDomain, "__x").
+pub use Rattle.byte_text.specs.Characters.{dollar}
 use Rattle.std.specs.Prelude.{◌≡◌, ℕ, ◌==◌, if◌then◌else◌, List, [], ◌∷◌, Option, None, Some}
 use Rattle.format_arguments.specs.Bytes.{run, behind}
 use Rattle.python_brace_format.specs.BraceFields.{is_letter, is_word}
 use Rattle.python_brace_format.specs.BraceSpecifiers.{open_brace, close_brace}
 use Rattle.named_formats.specs.declared.Notation.{Notation}
 use Rattle.named_formats.specs.declared.Notation.TheVariants.{PerlBrace, Shell}
-
-abbrev pub dollar : ℕ
-dollar = 36
 
 -- the byte that a directive begins with
 abbrev pub mark : Notation → ℕ
@@ -24,13 +22,13 @@ split_name (b ∷ more) =
     if is_letter b then Some (run is_word (b ∷ more), behind is_word (b ∷ more)) else None
 
 -- the closing brace has to follow
-abbrev pub closed : Option (List ℕ × List ℕ) → Option (List ℕ × List ℕ)
-closed None = None
-closed (Some (name, [])) = None
-closed (Some (name, b ∷ more)) = if b == close_brace then Some (name, more) else None
+abbrev pub with_brace : Option (List ℕ × List ℕ) → Option (List ℕ × List ℕ)
+with_brace None = None
+with_brace (Some (name, [])) = None
+with_brace (Some (name, b ∷ more)) = if b == close_brace then Some (name, more) else None
 
 abbrev pub split_closed_name : List ℕ → Option (List ℕ × List ℕ)
-split_closed_name text = closed (split_name text)
+split_closed_name text = with_brace (split_name text)
 
 -- a name, or one in braces
 abbrev pub shell : List ℕ → Option (List ℕ × List ℕ)

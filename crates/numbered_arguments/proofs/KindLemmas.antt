@@ -8,7 +8,7 @@ use Rattle.numbered_arguments.specs.declared.Kind.{Kind}
 use Rattle.format_arguments.specs.declared.Strictness.TheVariants.{Same, Lenient}
 use Rattle.format_arguments.proofs.AgreementLemmas.{all_at}
 use Rattle.numbered_arguments.specs.declared.Numbered.{Numbered}
-use Rattle.numbered_arguments.specs.NumberedArguments.{kind_at, is_kind, is_fit, has, has_fit, covered, agree}
+use Rattle.numbered_arguments.specs.NumberedArguments.{kind_at, is_kind, is_fit, has, has_fit, are_covered, agree}
 use Rattle.numbered_arguments.specs.NumberedKinds.{same_size, same_kind, kinds_fit}
 use Rattle.numbered_arguments.specs.declared.Size.{Size}
 use Rattle.numbered_arguments.specs.declared.Size.TheVariants.{Plain, Short, Long, LongLong, Native}
@@ -66,7 +66,7 @@ is_some_kind : (found : Option Kind) (kind : Kind) → is_kind found kind ≡ tr
 is_some_kind None kind h = absurd (cc h)
 is_some_kind (Some other) kind h = ap (λ (k : Kind). Some k) (kind_is other kind h)
 
-kept : (ones others : List Numbered) → covered ones others ≡ true → (number : ℕ) (kind : Kind)
+kept : (ones others : List Numbered) → are_covered ones others ≡ true → (number : ℕ) (kind : Kind)
     → kind_at number ones ≡ Some kind → kind_at number others ≡ Some kind
 kept ones others h number kind e = elim (found_at number kind None ones e) [
   | inl none ↦ absurd (cc none)
@@ -83,7 +83,7 @@ same_at (Some kind) b f g = sym (f kind refl)
 pub same_strictly : (original translation : List Numbered) → agree original translation Same ≡ true → (number : ℕ)
     → kind_at number original ≡ kind_at number translation
 same_strictly original translation h number =
-    let both = and_parts (covered original translation) (covered translation original) h in
+    let both = and_parts (are_covered original translation) (are_covered translation original) h in
     same_at (kind_at number original) (kind_at number translation) (kept original translation both.0 number)
     (kept translation original both.1 number)
 

@@ -6,9 +6,8 @@ use Rattle.numbered_arguments.specs.declared.Numbered.{Numbered}
 use Rattle.numbered_arguments.specs.declared.Request.{Request}
 use Rattle.numbered_arguments.specs.declared.numbering.Numbering.{Numbering}
 use Rattle.numbered_arguments.specs.declared.index.Index.{Index}
-use Rattle.numbered_arguments.specs.NumberedArguments.{numbered, numbered_from, number_or, next_after, is_kind, has}
-use Rattle.numbered_arguments.specs.NumberedArguments.{is_fit, has_fit, fits_in}
-use Rattle.numbered_arguments.specs.NumberedArguments.{covered}
+use Rattle.numbered_arguments.specs.NumberedArguments.{numbered_requests, numbered_from, number_or, next_after, is_kind}
+use Rattle.numbered_arguments.specs.NumberedArguments.{has, is_fit, has_fit, fits_in, are_covered}
 use Rattle.numbered_arguments.specs.NumberingStates.{next_behind, HasNumbered}
 use Rattle.numbered_arguments.specs.NumberedIndex.{IsIndexOf, has_in, fits_by}
 
@@ -34,7 +33,7 @@ numbered_next old new requests r number e f g h =
     let here : number ≡ number_or r.number (next_behind 1 requests) = e ∙ ap (number_or r.number) h.next in
     record {
       asked = g ∙ ap (λ (xs : List Numbered). xs ++ argument number r.kind ∷ []) h.asked
-          ∙ ap (λ (n : ℕ). numbered requests ++ argument n r.kind ∷ []) here
+          ∙ ap (λ (n : ℕ). numbered_requests requests ++ argument n r.kind ∷ []) here
           ∙ sym (numbered_more 1 requests (r ∷ []));
       next = f ∙ ap (next_after r.number) h.next ∙ sym (next_more 1 requests (r ∷ []));
     }
@@ -46,7 +45,7 @@ all_same p q same [] = refl
 all_same p q same (x ∷ xs) = rw (same x, all_same p q same xs) refl
 
 pub covered_is : (index : Index) (ones asked : List Numbered) → IsIndexOf index asked
-    → list_all (has_in index) ones ≡ covered ones asked
+    → list_all (has_in index) ones ≡ are_covered ones asked
 covered_is index ones asked is = all_same (has_in index) (has asked)
     (λ a. ap (λ (found : Option Kind). is_kind found a.kind) (is a.number)) ones
 

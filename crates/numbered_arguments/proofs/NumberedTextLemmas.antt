@@ -6,7 +6,7 @@ use Rattle.format_arguments.proofs.TextLemmas.{one_asked}
 use Rattle.numbered_arguments.specs.declared.Numbered.{Numbered}
 use Rattle.numbered_arguments.specs.declared.Request.{Request}
 use Rattle.numbered_arguments.specs.declared.numbering.Numbering.{Numbering}
-use Rattle.numbered_arguments.specs.NumberedArguments.{numbered}
+use Rattle.numbered_arguments.specs.NumberedArguments.{numbered_requests}
 use Rattle.numbered_arguments.specs.NumberedText.{AsksFor}
 use Rattle.numbered_arguments.specs.NumberingStates.{AddsRequests, HasNumbered}
 
@@ -49,7 +49,7 @@ module _ {D : Type 0} (mark : ℕ) (At : D → List ℕ → List ℕ → Type 0)
     asks_for text rest numbering asked so_far end e fitting = (
       so_far.read.directives,
       read_all mark At laws requests text rest so_far.asked so_far.read end,
-      e ∙ so_far.numbered.asked ∙ ap numbered so_far.read.asked_is,
+      e ∙ so_far.numbered.asked ∙ ap numbered_requests so_far.read.asked_is,
       subst (λ (rs : List Request). fits rs ≡ true) so_far.read.asked_is fitting,
     )
 
@@ -64,4 +64,4 @@ module _ {D : Type 0} (mark : ℕ) (At : D → List ℕ → List ℕ → Type 0)
     pub one_list : (text : List ℕ) (asked others : List Numbered) → AsksFor mark At requests fits text asked
         → AsksFor mark At requests fits text others → asked ≡ others
     one_list text asked others (ds, f, e, fitting) (es, g, h, also) =
-        e ∙ ap numbered (one_asked mark At laws requests ds es text f g) ∙ sym h
+        e ∙ ap numbered_requests (one_asked mark At laws requests ds es text f g) ∙ sym h

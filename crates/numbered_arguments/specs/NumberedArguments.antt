@@ -32,8 +32,8 @@ numbered_from next [] = []
 numbered_from next (r ∷ more) =
     record { number = number_or r.number next; kind = r.kind } ∷ numbered_from (next_after r.number next) more
 
-abbrev pub numbered : List Request → List Numbered
-numbered requests = numbered_from 1 requests
+abbrev pub numbered_requests : List Request → List Numbered
+numbered_requests requests = numbered_from 1 requests
 
 -- what a directive asks for: one argument, or none
 abbrev pub list_of : Option Request → List Request
@@ -55,12 +55,12 @@ abbrev pub has : List Numbered → Numbered → Bool
 has asked a = is_kind (kind_at a.number asked) a.kind
 
 -- each of the ones is asked for by the others too, of the same kind
-abbrev pub covered : List Numbered → List Numbered → Bool
-covered ones others = list_all (has others) ones
+abbrev pub are_covered : List Numbered → List Numbered → Bool
+are_covered ones others = list_all (has others) ones
 
 -- each number has one kind
 abbrev pub is_consistent : List Numbered → Bool
-is_consistent asked = covered asked asked
+is_consistent asked = are_covered asked asked
 
 -- ---- the arguments of two formats
 
@@ -79,5 +79,9 @@ fits_in ones others = list_all (has_fit others) ones
 -- the numbers and their kinds are the same; leniently, the translation leaves some out, and one object can be what both
 -- ask for by a number
 abbrev pub agree : List Numbered → List Numbered → Strictness → Bool
-agree original translation Same = covered original translation && covered translation original
+agree original translation Same = are_covered original translation && are_covered translation original
 agree original translation Lenient = fits_in translation original
+
+-- the argument, as if it had this kind
+abbrev pub of_kind : Kind → Numbered → Numbered
+of_kind kind a = record { number = a.number; kind = kind }

@@ -6,7 +6,7 @@ use Rattle.format_arguments.specs.declared.FormatFault.TheVariants.{Invalid, Mem
 use Rattle.format_arguments.specs.Text.{IsFormat}
 use Rattle.numbered_arguments.specs.declared.Numbered.{Numbered}
 use Rattle.numbered_arguments.specs.declared.Request.{Request}
-use Rattle.numbered_arguments.specs.NumberedArguments.{numbered}
+use Rattle.numbered_arguments.specs.NumberedArguments.{numbered_requests}
 
 -- `At d text rest` says that text is the directive d, followed by rest, `requests d` is what d asks for, and
 -- `fits asked` says that the language lets one format ask for all of these
@@ -15,7 +15,7 @@ module _ {D : Type 0} (mark : ℕ) (At : D → List ℕ → List ℕ → Type 0)
   -- the text is a format that asks for these arguments, in this order
   abbrev pub AsksFor : List ℕ → List Numbered → Type 0
   AsksFor text asked = (directives : List D) × IsFormat mark At directives text
-      × (asked ≡ numbered (flat_map requests directives)) × (fits (flat_map requests directives) ≡ true)
+      × (asked ≡ numbered_requests (flat_map requests directives)) × (fits (flat_map requests directives) ≡ true)
 
   -- the text has this fault; Memory says nothing about the text
   abbrev pub Refuses : List ℕ → FormatFault → Type 0

@@ -26,7 +26,7 @@ fn all_in(ones: &[Numbered], others: &Index) -> bool
 
 /// Whether each of the ones is asked for by the others too, of the same kind.
 fn covered(alloc: Global, ones: &[Numbered], others: &[Numbered]) -> Result<bool, AllocError>
-    ensures { IfOk result (λ are. are ≡ spec.covered ones.now others.now) }
+    ensures { IfOk result (λ are. are ≡ spec.are_covered ones.now others.now) }
 {
     let index = Index::of(alloc, others)?;
     Ok(all_in(ones, &index))

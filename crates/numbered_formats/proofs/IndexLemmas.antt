@@ -1,20 +1,18 @@
 -- What is found in an index is found among the arguments.
-use Rattle.std.proofs.Common.{◌≡◌, ℕ, zero, suc, ◌+◌, ◌≤◌, ◌<◌, Bool, false, List, [], ◌∷◌, Option, None, Some}
-use Rattle.std.proofs.Common.{refl, ap}
-use Rattle.std.proofs.Common.{◌∙◌, subst, arith, inl, inr}
+use Rattle.std.proofs.Common.{◌≡◌, ℕ, zero, suc, ◌+◌, ◌≤◌, ◌<◌, Bool, false, List, [], ◌∷◌, Option, None, Some, refl}
+use Rattle.std.proofs.Common.{ap, ◌∙◌, subst, arith, inl, inr}
 use Rattle.std.specs.Prelude.{◌||◌, not, ◌==◌}
 use Rattle.std.specs.List.{list_all, find}
 use Rattle.std.proofs.Math.Nat.{eq-or-lt_of_le}
 use Rattle.numbered_arguments.specs.declared.Kind.{Kind}
 use Rattle.numbered_arguments.specs.declared.Numbered.{Numbered}
 use Rattle.numbered_arguments.specs.declared.index.Index.{Index}
-use Rattle.numbered_arguments.specs.NumberedArguments.{has, covered, is_kind}
+use Rattle.numbered_arguments.specs.NumberedArguments.{has, are_covered, is_kind}
 use Rattle.numbered_arguments.specs.NumberedIndex.{IsIndexOf, has_in}
-use Rattle.numbered_formats.specs.NumberGaps.{any, left_out, leaves_out_one, leaves_out_one_in, largest}
-use Rattle.numbered_formats.specs.NumberAgreement.{one_missing, misses_one, misses_one_in, kde_leniently, qt}
+use Rattle.numbered_formats.specs.NumberGaps.{any, left_out, leaves_out_one, leaves_out_one_in, largest_number}
+use Rattle.numbered_formats.specs.NumberAgreement.{one_missing, misses_one, misses_one_in, kde_leniently, qt, kde_by}
+use Rattle.numbered_formats.specs.NumberAgreement.{qt_by, of_kind, is_number_there, numbers_covered, numbers_in, all_in}
 use Rattle.numbered_arguments.specs.declared.Kind.TheVariants.{Any, Text}
-use Rattle.numbered_formats.specs.NumberAgreement.{kde_by, qt_by, of_kind, is_number_there, numbers_covered}
-use Rattle.numbered_formats.specs.NumberAgreement.{numbers_in, all_in}
 
 same_in : (index : Index) (asked : List Numbered) → IsIndexOf index asked → (a : Numbered)
     → has_in index a ≡ has asked a
@@ -28,14 +26,14 @@ left_out_same : (p q : Numbered → Bool) → ((a : Numbered) → p a ≡ q a) �
 left_out_same p q same zero = refl
 left_out_same p q same (suc n) = rw (same (any (suc n)), left_out_same p q same n) refl
 
-pub gaps_are : (index : Index) (asked : List Numbered) (last : ℕ) → IsIndexOf index asked → last ≡ largest asked
+pub gaps_are : (index : Index) (asked : List Numbered) (last : ℕ) → IsIndexOf index asked → last ≡ largest_number asked
     → leaves_out_one_in index last ≡ leaves_out_one asked
 gaps_are index asked last is e =
     let counts = left_out_same (has_in index) (has asked) (same_in index asked is) last in
     rw (counts, e) refl
 
 pub all_in_is : (index : Index) (ones asked : List Numbered) → IsIndexOf index asked
-    → all_in index ones ≡ covered ones asked
+    → all_in index ones ≡ are_covered ones asked
 all_in_is index ones asked is = all_same (has_in index) (has asked) (same_in index asked is) ones
 
 pub numbers_in_is : (index : Index) (ones asked : List Numbered) → IsIndexOf index asked

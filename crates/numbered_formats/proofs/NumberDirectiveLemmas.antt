@@ -14,28 +14,27 @@ use Rattle.numbered_arguments.specs.declared.Size.TheVariants.{Plain}
 use Rattle.numbered_arguments.specs.declared.Request.{Request}
 use Rattle.numbered_formats.specs.declared.Notation.{Notation}
 use Rattle.numbered_formats.specs.declared.Notation.TheVariants.{Qt, QtPlural, Kde, Ycp, Smalltalk}
-use Rattle.numbered_formats.specs.NumberDirectives.{percent, numbered, is_first_digit, digit_value, second, places}
-use Rattle.numbered_formats.specs.NumberDirectives.{qt, n}
-use Rattle.numbered_formats.specs.NumberDirectives.{qt_plural, kde, digit, request, behind_percent, behind_plain}
-use Rattle.numbered_formats.specs.NumberDirectives.{DirectiveAt}
+use Rattle.numbered_formats.specs.NumberDirectives.{percent, numbered_request, is_first_digit, digit_value}
+use Rattle.numbered_formats.specs.NumberDirectives.{second_digit, digits_at, qt, n, qt_plural, kde, digit, request}
+use Rattle.numbered_formats.specs.NumberDirectives.{behind_percent, behind_plain, DirectiveAt}
 
 -- ---- what follows is no longer than the text
 
 abbrev Within : List ℕ → Option (Request × List ℕ) → Type 0
 Within text found = (r : Request) (rest : List ℕ) → found ≡ Some (r, rest) → length rest ≤ length text
 
-second_within : (kind : Kind) (first : ℕ) (text : List ℕ) → length (second kind first text).1 ≤ length text
+second_within : (kind : Kind) (first : ℕ) (text : List ℕ) → length (second_digit kind first text).1 ≤ length text
 second_within kind first [] = omega arith
 second_within kind first (b ∷ more) = elim (cases_Bool (is_ascii_digit b)) [
   | inl e ↦ rw e (omega arith)
   | inr e ↦ rw e (omega arith)
 ]
 
-places_within : (kind : Kind) (text : List ℕ) → Within text (places kind text)
-places_within kind [] r rest e = absurd (cc e)
-places_within kind (b ∷ more) r rest e = elim (cases_Bool (is_ascii_digit b)) [
+digits_within : (kind : Kind) (text : List ℕ) → Within text (digits_at kind text)
+digits_within kind [] r rest e = absurd (cc e)
+digits_within kind (b ∷ more) r rest e = elim (cases_Bool (is_ascii_digit b)) [
   | inl digit ↦
-      let same : second kind (digit_value b) more ≡ (r, rest) = cc (rw digit at e) in
+      let same : second_digit kind (digit_value b) more ≡ (r, rest) = cc (rw digit at e) in
       omega (arith, second_within kind (digit_value b) more, ap (λ (p : Request × List ℕ). length p.1) same)
   | inr other ↦ absurd (cc (rw other at e))
 ]
@@ -46,8 +45,8 @@ one_more b more found within r rest e = omega (arith, within r rest e)
 qt_within : (text : List ℕ) → Within text (qt text)
 qt_within [] r rest e = absurd (cc e)
 qt_within (b ∷ more) r rest e = elim (cases_Bool (b == 76)) [
-  | inl l ↦ one_more b more (places _ more) (places_within _ more) r rest (rw l at e)
-  | inr none ↦ places_within _ (b ∷ more) r rest (rw none at e)
+  | inl l ↦ one_more b more (digits_at _ more) (digits_within _ more) r rest (rw l at e)
+  | inr none ↦ digits_within _ (b ∷ more) r rest (rw none at e)
 ]
 
 some_rest : (p q : Request × List ℕ) → Some p ≡ Some q → length q.1 ≤ length p.1
@@ -58,7 +57,7 @@ some_rest p q e =
 n_within : (text : List ℕ) → Within text (n text)
 n_within [] r rest e = absurd (cc e)
 n_within (b ∷ more) r rest e = elim (cases_Bool (b == 110)) [
-  | inl is ↦ omega (arith, some_rest (numbered 1 (Integer Plain), more) (r, rest) (rw is at e))
+  | inl is ↦ omega (arith, some_rest (numbered_request 1 (Integer Plain), more) (r, rest) (rw is at e))
   | inr other ↦ absurd (cc (rw other at e))
 ]
 
@@ -76,7 +75,7 @@ kde_within (b ∷ more) r rest e = elim (cases_Bool (is_first_digit b)) [
       omega (
         arith,
         length-drop (prefix_len is_ascii_digit (b ∷ more)) (b ∷ more),
-        some_rest (numbered (number_of (run is_ascii_digit (b ∷ more))) Any, behind is_ascii_digit (b ∷ more))
+        some_rest (numbered_request (number_of (run is_ascii_digit (b ∷ more))) Any, behind is_ascii_digit (b ∷ more))
             (r, rest) (rw digit at e),
       )
   | inr other ↦ absurd (cc (rw other at e))
@@ -85,7 +84,7 @@ kde_within (b ∷ more) r rest e = elim (cases_Bool (is_first_digit b)) [
 digit_within : (text : List ℕ) → Within text (digit text)
 digit_within [] r rest e = absurd (cc e)
 digit_within (b ∷ more) r rest e = elim (cases_Bool (is_first_digit b)) [
-  | inl digit ↦ omega (arith, some_rest (numbered (digit_value b) Any, more) (r, rest) (rw digit at e))
+  | inl digit ↦ omega (arith, some_rest (numbered_request (digit_value b) Any, more) (r, rest) (rw digit at e))
   | inr other ↦ absurd (cc (rw other at e))
 ]
 

@@ -1,7 +1,7 @@
 -- When the arguments of two formats agree, as GNU gettext has it.
+pub use Rattle.numbered_arguments.specs.NumberedArguments.{of_kind}
 use Rattle.std.specs.Prelude.{ℕ, Bool, true, not, ◌&&◌, ◌||◌, ◌==◌, List, Option, None, Some}
 use Rattle.std.specs.List.{list_all, find}
-use Rattle.numbered_arguments.specs.declared.Kind.{Kind}
 use Rattle.numbered_arguments.specs.declared.Kind.TheVariants.{Any, Text}
 use Rattle.format_arguments.specs.declared.Strictness.{Strictness}
 use Rattle.format_arguments.specs.declared.Strictness.TheVariants.{Lenient}
@@ -9,7 +9,7 @@ use Rattle.numbered_arguments.specs.NumberedKinds.{same_kind}
 use Rattle.numbered_arguments.specs.declared.Numbered.{Numbered}
 use Rattle.numbered_arguments.specs.declared.index.Index.{Index}
 use Rattle.numbered_arguments.specs.NumberedArguments as arguments
-use Rattle.numbered_arguments.specs.NumberedArguments.{has, covered}
+use Rattle.numbered_arguments.specs.NumberedArguments.{has, are_covered}
 use Rattle.numbered_arguments.specs.NumberedIndex.{has_in}
 use Rattle.numbered_formats.specs.declared.Notation.{Notation}
 use Rattle.numbered_formats.specs.declared.Notation.TheVariants.{Qt, Kde}
@@ -27,12 +27,9 @@ misses_one is_there ones = one_missing is_there ones (find (λ one. not (is_ther
 
 -- the translation leaves out at most one number, and adds none
 abbrev pub kde_leniently : List Numbered → List Numbered → Bool
-kde_leniently original translation = covered translation original && misses_one (has translation) original
+kde_leniently original translation = are_covered translation original && misses_one (has translation) original
 
 -- ---- Qt
-
-abbrev pub of_kind : Kind → Numbered → Numbered
-of_kind kind a = record { number = a.number; kind = kind }
 
 abbrev pub is_number_there : (Numbered → Bool) → Numbered → Bool
 is_number_there is_there a = is_there (of_kind Text a) || is_there (of_kind Any a)

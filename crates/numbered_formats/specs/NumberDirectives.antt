@@ -1,8 +1,9 @@
 -- Directives that name an argument by its number (GNU gettext manual, "Qt Format Strings", "KDE Format Strings", "YCP
 -- Format Strings", "Smalltalk Format Strings"; Qt's reference, "QString::arg" and "Writing Source Code for
 -- Translation"; KDE's "Programmer's Guide for ki18n"; GNU Smalltalk's reference, CharArray, `bindWith:`).
-use Rattle.std.specs.Prelude.{◌≡◌, ℕ, ◌+◌, ◌-◌, ◌*◌, Bool, not, ◌&&◌, ◌==◌, if◌then◌else◌, List, [], ◌∷◌, Option}
-use Rattle.std.specs.Prelude.{None, Some}
+pub use Rattle.format_arguments.specs.Bytes.{is_first_digit}
+pub use Rattle.byte_text.specs.Characters.{percent}
+use Rattle.std.specs.Prelude.{◌≡◌, ℕ, ◌+◌, ◌-◌, ◌*◌, ◌==◌, if◌then◌else◌, List, [], ◌∷◌, Option, None, Some}
 use Rattle.std.specs.Char.{is_ascii_digit}
 use Rattle.format_arguments.specs.Bytes.{run, behind}
 use Rattle.numbered_arguments.specs.declared.Kind.{Kind}
@@ -13,39 +14,34 @@ use Rattle.numbered_arguments.specs.NumberedArguments.{number_of}
 use Rattle.numbered_formats.specs.declared.Notation.{Notation}
 use Rattle.numbered_formats.specs.declared.Notation.TheVariants.{Qt, QtPlural, Kde, Ycp, Smalltalk}
 
-abbrev pub percent : ℕ
-percent = 37
-
-abbrev pub numbered : ℕ → Kind → Request
-numbered number kind = record { number = Some number; kind = kind }
+abbrev pub numbered_request : ℕ → Kind → Request
+numbered_request number kind = record { number = Some number; kind = kind }
 
 -- what a digit stands for
 abbrev pub digit_value : ℕ → ℕ
 digit_value b = b - 48
 
-abbrev pub is_first_digit : ℕ → Bool
-is_first_digit b = is_ascii_digit b && not (b == 48)
-
 -- ---- what stands behind the `%`: the argument, and what follows
 
 -- a number of the first digit and of another, if one follows
-abbrev pub second : Kind → ℕ → List ℕ → Request × List ℕ
-second kind first [] = (numbered first kind, [])
-second kind first (b ∷ more) =
-    if is_ascii_digit b then (numbered (10 * first + digit_value b) Any, more) else (numbered first kind, b ∷ more)
+abbrev pub second_digit : Kind → ℕ → List ℕ → Request × List ℕ
+second_digit kind first [] = (numbered_request first kind, [])
+second_digit kind first (b ∷ more) =
+    if is_ascii_digit b then (numbered_request (10 * first + digit_value b) Any, more)
+    else (numbered_request first kind, b ∷ more)
 
-abbrev pub places : Kind → List ℕ → Option (Request × List ℕ)
-places kind [] = None
-places kind (b ∷ more) = if is_ascii_digit b then Some (second kind (digit_value b) more) else None
+abbrev pub digits_at : Kind → List ℕ → Option (Request × List ℕ)
+digits_at kind [] = None
+digits_at kind (b ∷ more) = if is_ascii_digit b then Some (second_digit kind (digit_value b) more) else None
 
 -- one digit or two, maybe behind an `L`; only one digit without it can be one of the strings that `arg` takes at once
 abbrev pub qt : List ℕ → Option (Request × List ℕ)
 qt [] = None
-qt (b ∷ more) = if b == 76 then places Any more else places Text (b ∷ more)
+qt (b ∷ more) = if b == 76 then digits_at Any more else digits_at Text (b ∷ more)
 
 abbrev pub n : List ℕ → Option (Request × List ℕ)
 n [] = None
-n (b ∷ more) = if b == 110 then Some (numbered 1 (Integer Plain), more) else None
+n (b ∷ more) = if b == 110 then Some (numbered_request 1 (Integer Plain), more) else None
 
 -- `n`, maybe behind an `L`
 abbrev pub qt_plural : List ℕ → Option (Request × List ℕ)
@@ -56,12 +52,13 @@ qt_plural (b ∷ more) = if b == 76 then n more else n (b ∷ more)
 abbrev pub kde : List ℕ → Option (Request × List ℕ)
 kde [] = None
 kde (b ∷ more) = if is_first_digit b
-    then Some (numbered (number_of (run is_ascii_digit (b ∷ more))) Any, behind is_ascii_digit (b ∷ more)) else None
+    then Some (numbered_request (number_of (run is_ascii_digit (b ∷ more))) Any, behind is_ascii_digit (b ∷ more))
+    else None
 
 -- one digit, which isn't 0
 abbrev pub digit : List ℕ → Option (Request × List ℕ)
 digit [] = None
-digit (b ∷ more) = if is_first_digit b then Some (numbered (digit_value b) Any, more) else None
+digit (b ∷ more) = if is_first_digit b then Some (numbered_request (digit_value b) Any, more) else None
 
 abbrev pub request : Notation → List ℕ → Option (Request × List ℕ)
 request Qt text = qt text

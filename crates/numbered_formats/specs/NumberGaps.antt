@@ -13,8 +13,8 @@ abbrev pub any : ℕ → Numbered
 any number = record { number = number; kind = Any }
 
 -- the largest number that is asked for, or 0
-abbrev pub largest : List Numbered → ℕ
-largest asked = fold (λ most a. if nat_lt most a.number then a.number else most) 0 asked
+abbrev pub largest_number : List Numbered → ℕ
+largest_number asked = fold (λ most a. if nat_lt most a.number then a.number else most) 0 asked
 
 -- how many of the numbers 1 to this one aren't there
 abbrev pub left_out : (Numbered → Bool) → ℕ → ℕ
@@ -26,7 +26,7 @@ leaves_out_one_in index last = nat_lt (left_out (has_in index) last) 2
 
 -- at most one of the numbers up to the largest isn't asked for
 abbrev pub leaves_out_one : List Numbered → Bool
-leaves_out_one asked = nat_lt (left_out (has asked) (largest asked)) 2
+leaves_out_one asked = nat_lt (left_out (has asked) (largest_number asked)) 2
 
 abbrev pub fit : Notation → List Numbered → Bool
 fit Kde asked = leaves_out_one asked

@@ -9,7 +9,7 @@ use numbered_arguments::{Kind, Request, Size, number_of, split_digits};
 
 /// The argument of this number.
 fn numbered(number: u32, kind: Kind) -> Request
-    ensures { result ≡ spec.numbered number kind }
+    ensures { result ≡ spec.numbered_request number kind }
 {
     Request {
         number: Some(number),
@@ -26,8 +26,8 @@ fn is_first_digit(byte: u8) -> bool
 /// The number of this digit and of another, if one follows.
 fn read_second(kind: Kind, first: u8, text: &[u8]) -> (Request, &[u8])
     requires { first < 10 }
-    ensures request { result.0 ≡ (spec.second kind first text.now).0 }
-    ensures rest { result.1.now ≡ (spec.second kind first text.now).1 }
+    ensures request { result.0 ≡ (spec.second_digit kind first text.now).0 }
+    ensures rest { result.1.now ≡ (spec.second_digit kind first text.now).1 }
 {
     match split_byte(text) {
         Some((second, rest)) => if second.is_ascii_digit() {
@@ -44,7 +44,7 @@ fn read_second(kind: Kind, first: u8, text: &[u8]) -> (Request, &[u8])
 
 /// Reads one digit or two. A number of one digit is of this kind.
 fn read_places(kind: Kind, text: &[u8]) -> Option<(Request, &[u8])>
-    ensures { option_map (λ found. (found.0, found.1.now)) result ≡ spec.places kind text.now }
+    ensures { option_map (λ found. (found.0, found.1.now)) result ≡ spec.digits_at kind text.now }
 {
     match split_byte(text) {
         Some((first, rest)) => if first.is_ascii_digit() {

@@ -8,7 +8,7 @@ use std::alloc::{AllocError, Global};
 
 /// The largest number of these, or 0.
 fn largest(asked: &[Numbered]) -> u32
-    ensures { result ≡ spec.largest asked.now }
+    ensures { result ≡ spec.largest_number asked.now }
 {
     let mut most = 0;
     'asked: for argument in asked {

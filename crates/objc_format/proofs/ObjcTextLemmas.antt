@@ -8,7 +8,7 @@ use Rattle.format_arguments.specs.Text.{SkipsPlain, IsFormat}
 use Rattle.format_arguments.proofs.TextLemmas.{HasRead, read_nothing, reads_on, no_format, read_all, one_asked}
 use Rattle.numbered_arguments.specs.declared.Numbered.{Numbered}
 use Rattle.numbered_arguments.specs.declared.Request.{Request}
-use Rattle.numbered_arguments.specs.NumberedArguments.{numbered}
+use Rattle.numbered_arguments.specs.NumberedArguments.{numbered_requests}
 use Rattle.objc_format.specs.declared.directive.Directive.{Directive}
 use Rattle.objc_format.specs.ObjcDirectives.{percent, asks, DirectiveAt}
 use Rattle.objc_format.specs.ObjcFormat.{is_read, fits, HasSignature, IsUnread}
@@ -77,12 +77,13 @@ module _ (text rest : List ℕ) (requests : List Request) (so_far : HasReadTo te
       (sym (directives_are text rest requests so_far))
       (read_all percent DirectiveAt are_directives itself text rest so_far.directives so_far.read end)
 
-  pub is_format : (asked : List Numbered) → asked ≡ numbered requests → fits requests ≡ true → HasSignature text asked
+  pub is_format : (asked : List Numbered) → asked ≡ numbered_requests requests → fits requests ≡ true
+      → HasSignature text asked
   is_format asked e fitting = (
     so_far.directives,
     whole,
     so_far.all,
-    e ∙ ap numbered so_far.collects,
+    e ∙ ap numbered_requests so_far.collects,
     subst (λ (rs : List Request). fits rs ≡ true) so_far.collects fitting,
   )
 
@@ -140,7 +141,7 @@ unreadable text rest behind requests so_far plain none = (
 pub one_list : (text : List ℕ) (asked others : List Numbered) → HasSignature text asked → HasSignature text others
     → asked ≡ others
 one_list text asked others (ds, f, all, e, fitting) (es, g, also, h, too) =
-    e ∙ ap (λ (cs : List Directive). numbered (flat_map asks cs)) (same_directives text ds es f g) ∙ sym h
+    e ∙ ap (λ (cs : List Directive). numbered_requests (flat_map asks cs)) (same_directives text ds es f g) ∙ sym h
 
 pub read_or_unread : (text : List ℕ) (asked : List Numbered) → HasSignature text asked → ¬ IsUnread text
 read_or_unread text asked (ds, f, all, e, fitting) (es, g, unread) =

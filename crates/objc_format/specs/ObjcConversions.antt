@@ -17,22 +17,22 @@ abbrev pub is_size : ℕ → Bool
 is_size b = list_any (λ letter. b == letter) (codes "hlLqjzZt")
 
 -- behind an `h` one more is `hh`
-abbrev pub shorter : Size → Size
-shorter Short = Byte
-shorter Byte = Byte
-shorter _ = Short
+abbrev pub shorter_size : Size → Size
+shorter_size Short = Byte
+shorter_size Byte = Byte
+shorter_size _ = Short
 
 -- behind an `l` one more is `ll`
-abbrev pub longer : Size → Size
-longer Long = LongLong
-longer LongLong = LongLong
-longer _ = Long
+abbrev pub longer_size : Size → Size
+longer_size Long = LongLong
+longer_size LongLong = LongLong
+longer_size _ = Long
 
 -- the size after one more letter: GNU gettext takes any run of them, and the last one decides
 abbrev pub with_letter : Size → ℕ → Size
 with_letter size letter =
-    if letter == 104 then shorter size
-    else if letter == 108 then longer size
+    if letter == 104 then shorter_size size
+    else if letter == 108 then longer_size size
     else if letter == 106 then Max
     else if letter == 116 then PtrDiff
     else if letter == 122 || letter == 90 then SizeT

@@ -1,24 +1,19 @@
 -- Formats of Objective-C, and the arguments that they ask for.
+pub use Rattle.script_formats.specs.Collecting.{is_own, is_next}
 use Rattle.std.specs.Prelude.{◌≡◌, ℕ, ◌-◌, nat_lt, Bool, true, false, not, ◌&&◌, if◌then◌else◌, List, Option, None}
-use Rattle.std.specs.Prelude.{Some, is_some, is_none}
+use Rattle.std.specs.Prelude.{Some}
 use Rattle.std.specs.List.{filter_map, flat_map, list_all, list_any}
 use Rattle.format_arguments.specs.Text.{IsFormat}
 use Rattle.numbered_arguments.specs.declared.Kind.TheVariants.{Any}
 use Rattle.numbered_arguments.specs.declared.Numbered.{Numbered}
 use Rattle.numbered_arguments.specs.declared.Request.{Request}
-use Rattle.numbered_arguments.specs.NumberedArguments.{numbered, is_consistent, fits_in}
+use Rattle.numbered_arguments.specs.NumberedArguments.{numbered_requests, is_consistent, fits_in}
 use Rattle.objc_format.specs.declared.ObjcFault.{ObjcFault}
 use Rattle.objc_format.specs.declared.ObjcFault.TheVariants as faults
 use Rattle.objc_format.specs.declared.directive.Directive.{Directive}
 use Rattle.objc_format.specs.ObjcDirectives.{percent, asks, DirectiveAt}
 
 -- ---- lists
-
-abbrev pub is_own : Request → Bool
-is_own r = is_some r.number
-
-abbrev pub is_next : Request → Bool
-is_next r = is_none r.number
 
 -- some have a number of their own, and some don't
 abbrev pub mixes : List Request → Bool
@@ -37,7 +32,7 @@ is_list asked = is_consistent asked && is_gapless asked
 
 -- all arguments have numbers, or none has; each number has one kind, and none is left out
 abbrev pub fits : List Request → Bool
-fits requests = not (mixes requests) && is_list (numbered requests)
+fits requests = not (mixes requests) && is_list (numbered_requests requests)
 
 -- ---- texts
 
@@ -47,7 +42,7 @@ is_read d = d.is_read
 -- the text is a format that asks for these arguments, and all its directives are read
 abbrev pub HasSignature : List ℕ → List Numbered → Type 0
 HasSignature text asked = (directives : List Directive) × IsFormat percent DirectiveAt directives text
-    × (list_all is_read directives ≡ true) × (asked ≡ numbered (flat_map asks directives))
+    × (list_all is_read directives ≡ true) × (asked ≡ numbered_requests (flat_map asks directives))
     × (fits (flat_map asks directives) ≡ true)
 
 -- up to a directive that is not read the text is directives and plain text

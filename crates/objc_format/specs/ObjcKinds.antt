@@ -10,35 +10,35 @@ use Rattle.numbered_arguments.specs.declared.Size.TheVariants.{Plain, Short, Lon
 use Rattle.objc_format.specs.declared.kinds.Taken.{Taken}
 use Rattle.objc_format.specs.declared.kinds.Taken.TheVariants as takes
 
-abbrev pub signed : Size → Kind
-signed sizes.Plain = Integer Plain
-signed sizes.Short = Integer Short
-signed sizes.Long = Integer Long
-signed sizes.LongLong = Integer LongLong
-signed sizes.SizeT = Integer Native
-signed sizes.Byte = Count Short
-signed sizes.Max = Count Long
-signed sizes.PtrDiff = Count LongLong
+abbrev pub signed_kind : Size → Kind
+signed_kind sizes.Plain = Integer Plain
+signed_kind sizes.Short = Integer Short
+signed_kind sizes.Long = Integer Long
+signed_kind sizes.LongLong = Integer LongLong
+signed_kind sizes.SizeT = Integer Native
+signed_kind sizes.Byte = Count Short
+signed_kind sizes.Max = Count Long
+signed_kind sizes.PtrDiff = Count LongLong
 
-abbrev pub unsigned : Size → Kind
-unsigned sizes.Plain = Unsigned Plain
-unsigned sizes.Short = Unsigned Short
-unsigned sizes.Long = Unsigned Long
-unsigned sizes.LongLong = Unsigned LongLong
-unsigned sizes.SizeT = Unsigned Native
-unsigned sizes.Byte = Float Short
-unsigned sizes.Max = Float Long
-unsigned sizes.PtrDiff = Float Native
+abbrev pub unsigned_kind : Size → Kind
+unsigned_kind sizes.Plain = Unsigned Plain
+unsigned_kind sizes.Short = Unsigned Short
+unsigned_kind sizes.Long = Unsigned Long
+unsigned_kind sizes.LongLong = Unsigned LongLong
+unsigned_kind sizes.SizeT = Unsigned Native
+unsigned_kind sizes.Byte = Float Short
+unsigned_kind sizes.Max = Float Long
+unsigned_kind sizes.PtrDiff = Float Native
 
 -- a pointer to another integer than an `int` is not read
-abbrev pub counted : Size → Option Kind
-counted sizes.Plain = Some (Count Plain)
-counted _ = None
+abbrev pub pointer_kind : Size → Option Kind
+pointer_kind sizes.Plain = Some (Count Plain)
+pointer_kind _ = None
 
 -- None: it is not read
 abbrev pub stand_in : Taken → Option Kind
-stand_in (takes.C (c.Signed size)) = Some (signed size)
-stand_in (takes.C (c.Unsigned size)) = Some (unsigned size)
+stand_in (takes.C (c.Signed size)) = Some (signed_kind size)
+stand_in (takes.C (c.Unsigned size)) = Some (unsigned_kind size)
 stand_in (takes.C c.Double) = Some (Float Plain)
 stand_in (takes.C c.LongDouble) = Some (Float LongLong)
 stand_in (takes.C c.Char) = Some Character
@@ -46,5 +46,5 @@ stand_in (takes.C c.WideChar) = Some Date
 stand_in (takes.C c.Text) = Some Text
 stand_in (takes.C c.WideText) = Some Vector
 stand_in (takes.C c.Pointer) = Some Pointer
-stand_in (takes.C (c.Count size)) = counted size
+stand_in (takes.C (c.Count size)) = pointer_kind size
 stand_in takes.Object = Some Object

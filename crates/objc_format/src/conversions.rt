@@ -25,7 +25,7 @@ pub(crate) fn split_sizes(text: &[u8]) -> (&[u8], &[u8])
 
 /// The size after one more `h`.
 fn shorter(size: Size) -> Size
-    ensures { result ≡ spec.shorter size }
+    ensures { result ≡ spec.shorter_size size }
 {
     match size {
         Size::Short | Size::Byte => Size::Byte,
@@ -35,7 +35,7 @@ fn shorter(size: Size) -> Size
 
 /// The size after one more `l`.
 fn longer(size: Size) -> Size
-    ensures { result ≡ spec.longer size }
+    ensures { result ≡ spec.longer_size size }
 {
     match size {
         Size::Long | Size::LongLong => Size::LongLong,

@@ -3,7 +3,7 @@
 ghost use Rattle.std.specs.Prelude.{◌≡◌, ℕ, List, ◌∷◌, MatchOption, option_map};
 ghost use Rattle.std.specs.List.{prefix_len};
 ghost use Rattle.format_arguments.specs.Bytes.{behind};
-ghost use Rattle.script_formats.specs.ScriptParts.{place};
+ghost use Rattle.script_formats.specs.ScriptParts.{index_at};
 ghost use Rattle.objc_format.specs.declared.directive.Directive.{Directive as Value};
 ghost use Rattle.objc_format.specs.ObjcDirectives as spec;
 ghost use Rattle.objc_format.specs.ObjcKinds as kinds;
@@ -13,7 +13,7 @@ use crate::kinds::{Taken, stand_in};
 use byte_text::split_byte;
 use c_signature::Size as CSize;
 use numbered_arguments::{Kind, Request, Size, skip_digits};
-use script_formats::read_place;
+use script_formats::read_index;
 
 /// What a directive asks for, in this order.
 #[derive(Clone, Copy)]
@@ -31,7 +31,7 @@ fn asking(
     precision: Option<Request>,
     argument: Option<Request>,
 ) -> Directive
-    ensures { result ≡ spec.asking width precision argument }
+    ensures { result ≡ spec.directive_asking width precision argument }
 {
     Directive {
         width,
@@ -43,7 +43,7 @@ fn asking(
 
 /// A directive that is not read; nothing follows it.
 fn unread<'a>() -> (Directive, &'a [u8])
-    ensures { (result.0, result.1.now) ≡ spec.unread }
+    ensures { (result.0, result.1.now) ≡ spec.unread_directive }
 {
     let directive = Directive {
         width: None,
@@ -56,9 +56,9 @@ fn unread<'a>() -> (Directive, &'a [u8])
 
 /// Reads what stands behind a star: an `int` with a number or without.
 fn read_starred(text: &[u8]) -> Option<(Option<Request>, &[u8])>
-    ensures { option_map (λ found. (found.0, found.1.now)) result ≡ spec.starred (place text.now) }
+    ensures { option_map (λ found. (found.0, found.1.now)) result ≡ spec.with_star (index_at text.now) }
 {
-    let (number, rest) = read_place(text)?;
+    let (number, rest) = read_index(text)?;
     let request = Request {
         number,
         kind: Kind::Integer(Size::Plain),
@@ -94,7 +94,7 @@ fn taking(
     taken: Taken,
     rest: &[u8],
 ) -> (Directive, &[u8])
-    ensures { (result.0, result.1.now) ≡ spec.standing number width precision rest.now (kinds.stand_in taken) }
+    ensures { (result.0, result.1.now) ≡ spec.directive_with number width precision rest.now (kinds.stand_in taken) }
 {
     match stand_in(taken) {
         Some(kind) => {
@@ -114,7 +114,7 @@ fn read_conversion(
     text: &[u8],
 ) -> Option<(Directive, &[u8])>
     ensures { option_map (λ found. (found.0, found.1.now)) result
-        ≡ spec.converted number width precision size text.now }
+        ≡ spec.behind_size number width precision size text.now }
 {
     let (conversion, rest) = split_byte(text)?;
     if takes_nothing(conversion) {
@@ -131,7 +131,8 @@ fn read_sized(
     precision: Option<Request>,
     text: &[u8],
 ) -> Option<(Directive, &[u8])>
-    ensures { option_map (λ found. (found.0, found.1.now)) result ≡ spec.sized number width precision text.now }
+    ensures { option_map (λ found. (found.0, found.1.now)) result
+        ≡ spec.behind_precision number width precision text.now }
 {
     let (first, _) = split_byte(text)?;
     if first == b'<' {
@@ -143,7 +144,7 @@ fn read_sized(
 
 /// Reads what stands behind the flags.
 fn read_flagged(number: Option<u32>, text: &[u8]) -> Option<(Directive, &[u8])>
-    ensures { option_map (λ found. (found.0, found.1.now)) result ≡ spec.flagged number text.now }
+    ensures { option_map (λ found. (found.0, found.1.now)) result ≡ spec.behind_flags number text.now }
 {
     let (first, _) = split_byte(text)?;
     if first == b'I' {
@@ -172,7 +173,7 @@ fn skip_flags(text: &[u8]) -> &[u8]
 fn read(text: &[u8]) -> Option<(Directive, &[u8])>
     ensures { option_map (λ found. (found.0, found.1.now)) result ≡ spec.directive text.now }
 {
-    let (number, rest) = read_place(text)?;
+    let (number, rest) = read_index(text)?;
     read_flagged(number, skip_flags(rest))
 }
 

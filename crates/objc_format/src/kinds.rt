@@ -17,7 +17,7 @@ pub enum Taken {
 }
 
 fn signed(size: CSize) -> Kind
-    ensures { result ≡ spec.signed size }
+    ensures { result ≡ spec.signed_kind size }
 {
     match size {
         CSize::Plain => Kind::Integer(Size::Plain),
@@ -32,7 +32,7 @@ fn signed(size: CSize) -> Kind
 }
 
 fn unsigned(size: CSize) -> Kind
-    ensures { result ≡ spec.unsigned size }
+    ensures { result ≡ spec.unsigned_kind size }
 {
     match size {
         CSize::Plain => Kind::Unsigned(Size::Plain),
@@ -47,7 +47,7 @@ fn unsigned(size: CSize) -> Kind
 }
 
 fn counted(size: CSize) -> Option<Kind>
-    ensures { result ≡ spec.counted size }
+    ensures { result ≡ spec.pointer_kind size }
 {
     match size {
         CSize::Plain => Some(Kind::Count(Size::Plain)),

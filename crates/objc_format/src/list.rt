@@ -1,7 +1,7 @@
 //! The list of the arguments that directives ask for.
 ghost use Rattle.std.specs.Prelude.{◌≡◌, false, true, IfOk, MatchOption};
 ghost use Rattle.std.specs.List.{filter_map, list_any};
-ghost use Rattle.numbered_arguments.specs.NumberedArguments.{numbered as in_numbers};
+ghost use Rattle.numbered_arguments.specs.NumberedArguments.{numbered_requests as in_numbers};
 ghost use Rattle.objc_format.specs.ObjcFormat as spec;
 
 use numbered_arguments::{Kind, Numbered, Numbering, Request, Strictness, agrees, is_consistent};

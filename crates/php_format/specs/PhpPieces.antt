@@ -1,5 +1,6 @@
 -- The parts of a directive of PHP's formats (GNU gettext manual, "PHP Format Strings"; PHP's function reference,
 -- "sprintf").
+pub use Rattle.byte_text.specs.Characters.{percent, dollar, apostrophe as quote, dot}
 use Rattle.std.specs.Prelude.{◌≡◌, ◌≢◌, ℕ, zero, suc, Bool, ◌==◌, if◌then◌else◌, List, [], ◌∷◌, Option, None, Some}
 use Rattle.std.specs.Prelude.{codes, length}
 use Rattle.std.specs.List.{list_any}
@@ -12,18 +13,6 @@ use Rattle.numbered_arguments.specs.declared.Size.TheVariants.{Plain}
 use Rattle.numbered_arguments.specs.NumberedArguments.{number_of}
 
 -- ---- the special characters of formats
-
-abbrev pub percent : ℕ
-percent = 37
-
-abbrev pub dollar : ℕ
-dollar = 36
-
-abbrev pub quote : ℕ
-quote = 39
-
-abbrev pub dot : ℕ
-dot = 46
 
 -- ---- argument numbers
 

@@ -10,7 +10,7 @@ use Rattle.po_text.specs.Progress.{HasRead, GoesOn, IsMemoryOrFaulty}
 use Rattle.po_text.specs.declared.fault.PoFault.{PoFault}
 use Rattle.po_text.specs.declared.reader.EntryReader.{EntryReader}
 use Rattle.po_text.proofs.Outcomes.{faulty_refuses}
-use Rattle.po_checks.specs.Kept.{is_kept, kept}
+use Rattle.po_checks.specs.Kept.{is_kept, kept_entries}
 use Rattle.po_checks.specs.Refusal.{kind_of, out_of_memory}
 use Rattle.po_checks.specs.declared.options.Options.{Options}
 use Rattle.po_checks.specs.declared.fault.LoadFault.{LoadFault}
@@ -50,21 +50,22 @@ pub record Gathers (text : List ℕ) (o : Options) (often : List Bool) (reader :
     Type 0 where
   pub entries : List po.Entry
   pub read : HasRead (body text) entries reader
-  pub faults_are : AreAllFaults often (kept o entries) faults
+  pub faults_are : AreAllFaults often (kept_entries o entries) faults
 
 pub gathers_none : (text : List ℕ) (o : Options) (often : List Bool) (reader : EntryReader) (faults : List Fault)
     → HasRead (body text) [] reader → faults ≡ [] → Gathers text o often reader faults
 gathers_none text o often reader faults read none = record { entries = []; read = read; faults_are = none }
 
 gathered : (often : List Bool) (o : Options) (es : List po.Entry) (e : po.Entry) (faults grown : List Fault)
-    (keeps : Bool) → is_kept o e ≡ keeps → AreAllFaults often (kept o es) faults → AddsIf keeps often e faults grown
-    → AreAllFaults often (kept o (es ++ (e ∷ []))) grown
+    (keeps : Bool) → is_kept o e ≡ keeps → AreAllFaults often (kept_entries o es) faults
+    → AddsIf keeps often e faults grown
+    → AreAllFaults often (kept_entries o (es ++ (e ∷ []))) grown
 gathered often o es e faults grown true k are adds =
     subst (λ (ks : List po.Entry). AreAllFaults often ks grown) (sym (kept_more o es e k))
-    (all_more often (kept o es) e faults grown are adds)
+    (all_more often (kept_entries o es) e faults grown are adds)
 gathered often o es e faults grown false k are adds =
     subst (λ (ks : List po.Entry). AreAllFaults often ks grown) (sym (kept_skip o es e k))
-    (subst (λ (f : List Fault). AreAllFaults often (kept o es) f) (sym adds) are)
+    (subst (λ (f : List Fault). AreAllFaults often (kept_entries o es) f) (sym adds) are)
 
 pub gathers_more : (text : List ℕ) (o : Options) (often : List Bool) (reader next : EntryReader)
     (faults grown : List Fault) (e : po.Entry) → (c : Gathers text o often reader faults)
@@ -79,6 +80,6 @@ gathers_more text o often reader next faults grown e c goes adds = record {
 pub gathers_all : (text : List ℕ) (o : Options) (often : List Bool) (reader next : EntryReader)
     (faults : List Fault) (e : po.Entry) → IsReadable text → (c : Gathers text o often reader faults)
     → GoesOn false (body text) c.entries e next
-    → (entries : List po.Entry) × outcome.Gives text entries × AreAllFaults often (kept o entries) faults
+    → (entries : List po.Entry) × outcome.Gives text entries × AreAllFaults often (kept_entries o entries) faults
 gathers_all text o often reader next faults e readable c ends =
     (c.entries, record { readable = readable; reads = ends.0 }, c.faults_are)

@@ -13,26 +13,15 @@ use Rattle.po_text.specs.Progress.{HasRead, GoesOn}
 use Rattle.po_text.specs.declared.reader.EntryReader.{EntryReader}
 use Rattle.po_header.specs.Rule.{Rule, HasRuleIn}
 use Rattle.message.specs.Message.{first_form}
-use Rattle.po_checks.specs.Kept.{is_header, is_kept, kept, kept_header}
+use Rattle.po_checks.specs.Kept.{is_header, is_kept, kept_entries, kept_header}
 use Rattle.po_checks.specs.declared.fault.LoadFault.{LoadFault}
-use Rattle.po_formats.specs.HeaderViews.{header_texts, IsForeignBy, IsHeaderOf, IsRuleBy, own_header, stored_texts}
+use Rattle.po_checks.specs.Headers.{header_texts, IsHeaderOf, own_header, stored_texts}
+use Rattle.po_checks.specs.declared.header.Header.{Header}
+use Rattle.po_checks.proofs.OwnHeader.{header_more}
+use Rattle.po_formats.specs.HeaderViews.{IsForeignBy, IsRuleBy}
 use Rattle.po_formats.specs.PlainFaults.{IsAccepted, IsForeignAt, Options, Charset}
-use Rattle.po_formats.specs.declared.header.Header.{Header}
 
 -- ---- one entry after another
-
-find_own : (o : Options) (e : po.Entry) (keeps heads : Bool) → is_kept o e ≡ keeps → is_header e ≡ heads
-    → find is_header (cond (is_kept o e) (e ∷ []) []) ≡ own_header o e
-find_own o e true true k h = rw (k, h) refl
-find_own o e true false k h = rw (k, h) refl
-find_own o e false heads k h = rw k refl
-
-header_more : (o : Options) (es : List po.Entry) (e : po.Entry) → kept_header o (es ++ (e ∷ []))
-    ≡ option_or (kept_header o es) (own_header o e)
-header_more o es e =
-    ap (find is_header) (filter-append (is_kept o) es (e ∷ []))
-    ∙ find-append is_header (kept o es) (cond (is_kept o e) (e ∷ []) [])
-    ∙ ap (option_or (kept_header o es)) (find_own o e (is_kept o e) (is_header e) refl refl)
 
 -- these entries were read, and this is their kept header
 pub record Finds (text : List ℕ) (o : Options) (reader : EntryReader) (found : Option Header) : Type 0 where

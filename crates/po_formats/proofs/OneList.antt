@@ -6,9 +6,9 @@ use Rattle.po_text.specs.Entries as po
 use Rattle.po_text.proofs.Outcomes.{gives_one}
 use Rattle.po_header.specs.Rule.{Rule, HasRuleIn}
 use Rattle.po_header.proofs.RuleLemmas.{HasRule-one}
-use Rattle.po_checks.specs.Kept.{header_text_of, kept}
+use Rattle.po_checks.specs.Kept.{header_text_of, kept_entries}
 use Rattle.format_checks.proofs.OneList.{none_wrong, one_list}
-use Rattle.po_formats.specs.Often.{often}
+use Rattle.po_formats.specs.Often.{often_served}
 use Rattle.po_formats.specs.EntryFaults.{AreAllFaults, HasGoodFormats, checked_entry, all_questions, AreFaults, Fault}
 use Rattle.po_formats.specs.PlainFaults.{HasFaults, Options}
 
@@ -31,9 +31,10 @@ faults_one text o found others x y =
     let entries : x.entries ≡ y.entries = gives_one text x.entries y.entries x.gives y.gives in
     let has = subst (λ (es : List po.Entry). HasRuleIn (header_text_of o es) x.rule) entries x.rule_is in
     let rule : x.rule ≡ y.rule = rule_one (header_text_of o y.entries) x.rule y.rule has y.rule_is in
-    let here = subst (λ (es : List po.Entry). AreAllFaults (often x.rule) (kept o es) found) entries x.faults_are in
-    all_one (often y.rule) (kept o y.entries) found others
-    (subst (λ (r : Rule). AreAllFaults (often r) (kept o y.entries) found) rule here) y.faults_are
+    let here = subst (λ (es : List po.Entry). AreAllFaults (often_served x.rule) (kept_entries o es) found) entries
+    x.faults_are in
+    all_one (often_served y.rule) (kept_entries o y.entries) found others
+    (subst (λ (r : Rule). AreAllFaults (often_served r) (kept_entries o y.entries) found) rule here) y.faults_are
 
 none_append : (xs ys : List Fault) → [] ≡ xs ++ ys → (xs ≡ []) × (ys ≡ [])
 none_append [] ys e = (refl, sym e)

@@ -3,10 +3,11 @@ use Rattle.std.proofs.Common.{◌≡◌, ℕ, Bool, List, subst, inr, Option}
 use Rattle.po_text.specs.Entries as po
 use Rattle.po_text.specs.Outcome as outcome
 use Rattle.po_text.proofs.Outcomes.{gives_one}
-use Rattle.po_formats.specs.Often.{often, Rule}
+use Rattle.po_formats.specs.Often.{often_served, Rule}
 use Rattle.po_formats.specs.EntryFaults.{AreAllFaults, Fault}
-use Rattle.po_formats.specs.PlainFaults.{HasFaults, Refuses, kept, kept_header, Options}
-use Rattle.po_formats.specs.HeaderViews.{IsForeignBy, IsHeaderOf, IsRuleBy, LoadFault, Header}
+use Rattle.po_formats.specs.PlainFaults.{HasFaults, Refuses, kept_entries, kept_header, Options}
+use Rattle.po_checks.specs.Headers.{IsHeaderOf}
+use Rattle.po_formats.specs.HeaderViews.{IsForeignBy, IsRuleBy, LoadFault, Header}
 use Rattle.po_formats.proofs.HeaderLemmas.{foreign_holds, rule_holds}
 
 -- what was found in a text: its kept header, and the faults of its entries
@@ -16,10 +17,10 @@ FindsHeader text o header =
 
 abbrev pub FindsFaults : List ℕ → Options → List Bool → List Fault → Type 0
 FindsFaults text o served faults =
-    (entries : List po.Entry) × outcome.Gives text entries × AreAllFaults served (kept o entries) faults
+    (entries : List po.Entry) × outcome.Gives text entries × AreAllFaults served (kept_entries o entries) faults
 
 pub has_faults : (text : List ℕ) (o : Options) (header : Option Header) (rule : Rule) (served : List Bool)
-    (faults : List Fault) → FindsHeader text o header → IsRuleBy header rule → served ≡ often rule
+    (faults : List Fault) → FindsHeader text o header → IsRuleBy header rule → served ≡ often_served rule
     → FindsFaults text o served faults → HasFaults text o faults
 has_faults text o header rule served faults (entries, gives, is) by same (others, again, are) =
     let one : others ≡ entries = gives_one text others entries again gives in
@@ -30,8 +31,8 @@ has_faults text o header rule served faults (entries, gives, is) by same (others
       accepted = accepted;
       rule = rule;
       rule_is = has;
-      faults_are = subst (λ (s : List Bool). AreAllFaults s (kept o entries) faults) same
-          (subst (λ (es : List po.Entry). AreAllFaults served (kept o es) faults) one are);
+      faults_are = subst (λ (s : List Bool). AreAllFaults s (kept_entries o entries) faults) same
+          (subst (λ (es : List po.Entry). AreAllFaults served (kept_entries o es) faults) one are);
     }
 
 pub charset_refuses : (text : List ℕ) (o : Options) (header : Option Header) (fault : LoadFault)

@@ -1,30 +1,11 @@
 -- Private: the kept header of a text, as the code stores it.
-use Rattle.std.specs.Prelude.{◌≡◌, ℕ, ◌&&◌, if◌then◌else◌, List, Option, None, Some, string_bytes}
-use Rattle.std.specs.Option.{option_map}
+use Rattle.std.specs.Prelude.{◌≡◌, Option, None, Some, string_bytes}
 use Rattle.po_text.specs.Entries as po
 use Rattle.po_header.specs.Rule.{Rule, Absent, HasRule}
-use Rattle.message.specs.Message.{first_form}
 use Rattle.message.specs.Charset.{HasAcceptedCharset}
-use Rattle.po_checks.specs.Kept.{is_header, is_kept}
-use Rattle.po_checks.specs.declared.options.Options.{Options}
 pub use Rattle.po_checks.specs.declared.fault.LoadFault.{LoadFault}
 use Rattle.po_checks.specs.declared.fault.LoadKind.TheVariants.{Charset}
-pub use Rattle.po_formats.specs.declared.header.Header.{Header}
-
--- the text and the line of a header
-abbrev pub header_texts : Option po.Entry → Option (List ℕ × ℕ)
-header_texts header = option_map (λ (e : po.Entry). (first_form e.forms, e.line)) header
-
-abbrev pub stored_texts : Option Header → Option (List ℕ × ℕ)
-stored_texts stored = option_map (λ (h : Header). (string_bytes h.text, h.line)) stored
-
--- what is stored is the text and the line of this header, if there is one
-abbrev pub IsHeaderOf : Option po.Entry → Option Header → Type 0
-IsHeaderOf header stored = stored_texts stored ≡ header_texts header
-
--- the entry, if it is the kept header
-abbrev pub own_header : Options → po.Entry → Option po.Entry
-own_header options e = if is_kept options e && is_header e then Some e else None
+pub use Rattle.po_checks.specs.declared.header.Header.{Header}
 
 -- the header's charset is accepted, and this is its rule
 abbrev pub IsRuleBy : Option Header → Rule → Type 0

@@ -8,7 +8,7 @@ pub use Rattle.po_header.specs.Rule.{Rule, Given}
 
 -- the expression gives n this form
 abbrev pub serves : Tree → ℕ → ℕ → Bool
-serves tree form n = option_map_or (λ place. place == form) (value tree n) false
+serves tree form n = option_map_or (λ index. index == form) (value tree n) false
 
 -- how many of the numbers below `end` the expression gives this form
 abbrev pub served_below : Tree → ℕ → ℕ → ℕ
@@ -25,6 +25,6 @@ forms_served tree zero = []
 forms_served tree (suc form) = forms_served tree form ++ (nat_le 5 (numbers_served tree form) ∷ [])
 
 -- whether each form does, by this rule; nothing is known without a rule, or if it has more than 100 forms
-abbrev pub often : Rule → List Bool
-often (Given nplurals tree) = if nat_le nplurals 100 then forms_served tree nplurals else []
-often _ = []
+abbrev pub often_served : Rule → List Bool
+often_served (Given nplurals tree) = if nat_le nplurals 100 then forms_served tree nplurals else []
+often_served _ = []

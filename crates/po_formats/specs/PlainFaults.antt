@@ -3,13 +3,13 @@ use Rattle.std.specs.Prelude.{◌≡◌, ◌⊎◌, ℕ, List, Option, None, Som
 use Rattle.po_text.specs.Entries as po
 use Rattle.po_text.specs.Outcome as outcome
 use Rattle.po_text.specs.declared.PoKind.{PoKind}
-pub use Rattle.po_checks.specs.Kept.{kept, kept_header, HasHeaderRule, NamesAcceptedCharset}
+pub use Rattle.po_checks.specs.Kept.{kept_entries, kept_header, HasHeaderRule, NamesAcceptedCharset}
 pub use Rattle.po_checks.specs.Fails.{IsForeignAt}
 use Rattle.po_checks.specs.Refusal.{kind_of}
 pub use Rattle.po_checks.specs.declared.options.Options.{Options}
 use Rattle.po_checks.specs.declared.fault.LoadKind.{LoadKind}
 pub use Rattle.po_checks.specs.declared.fault.LoadKind.TheVariants.{Charset}
-use Rattle.po_formats.specs.Often.{often, Rule}
+use Rattle.po_formats.specs.Often.{often_served, Rule}
 pub use Rattle.po_formats.specs.EntryFaults.{AreAllFaults, Fault}
 
 -- the kept header names an accepted charset or none, or there is no kept header
@@ -24,7 +24,7 @@ pub record HasFaults (text : List ℕ) (options : Options) (faults : List Fault)
   pub accepted : IsAccepted (kept_header options entries)
   pub rule : Rule
   pub rule_is : HasHeaderRule options entries rule
-  pub faults_are : AreAllFaults (often rule) (kept options entries) faults
+  pub faults_are : AreAllFaults (often_served rule) (kept_entries options entries) faults
 
 -- the text can't be read
 abbrev pub RefusesText : List ℕ → LoadKind → ℕ → Type 0

@@ -75,7 +75,7 @@ pub(crate) fn faults_of_entries(
     often: &[bool],
 ) -> Result<Vec<Fault>, LoadFault>
     ensures ok { IfOk result (λ faults. (entries : List PoEntry) × Gives text.now entries
-        × AreAllFaults often.now (Kept.kept options entries) faults.items) }
+        × AreAllFaults often.now (Kept.kept_entries options entries) faults.items) }
     ensures err { IfErr result (λ fault. (fault ≡ out_of_memory) ⊎ RefusesText text.now fault.kind fault.line) }
 {
     let mut reader = open_text(alloc, text)?;

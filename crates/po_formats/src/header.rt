@@ -1,50 +1,18 @@
 //! The kept header of a text, and its plural rule.
-ghost use Rattle.std.specs.Prelude.{◌≡◌, ◌⊎◌, ◌<◌, ◌&&◌, List, IfOk, IfErr, IsTrue, Some, length};
+ghost use Rattle.std.specs.Prelude.{◌≡◌, ◌⊎◌, List, IfOk, IfErr, Some};
 ghost use Rattle.po_text.specs.Entries.{Entry as PoEntry};
 ghost use Rattle.po_text.specs.Outcome.{Gives};
 ghost use Rattle.po_header.specs.Rules.{rule_of};
 ghost use Rattle.po_checks.specs.Kept as Kept;
 ghost use Rattle.po_checks.specs.Refusal.{out_of_memory};
-ghost use Rattle.po_formats.specs.HeaderViews.{IsForeignBy, IsHeaderOf, IsRuleBy, own_header};
+ghost use Rattle.po_checks.specs.Headers.{IsHeaderOf};
+ghost use Rattle.po_formats.specs.HeaderViews.{IsForeignBy, IsRuleBy};
 ghost use Rattle.po_formats.specs.PlainFaults.{RefusesText};
 
-use po_checks::{LoadFault, LoadKind, Options, is_header, is_kept};
+use po_checks::{Header, LoadFault, LoadKind, Options, header_of};
 use po_header::{RuleRead, has_accepted_charset, read_rule};
 use po_text::{EntryBuffer, open_text};
-use std::alloc::{AllocError, Global};
-
-/// A header's text and line.
-#[derive(Drop)]
-pub(crate) struct Header {
-    pub(crate) text: String,
-    pub(crate) line: u32,
-}
-
-/// Whether an entry is the kept header.
-fn is_kept_header(entry: &EntryBuffer, options: Options) -> bool
-    ensures is { result ≡ (Kept.is_kept options entry.now && Kept.is_header entry.now) }
-    ensures some { IsTrue result → 0 < length entry.now.forms }
-{
-    0 < entry.form_count() && is_kept(entry, options) && is_header(entry)
-}
-
-/// The entry as a header, if it is the kept one.
-fn header_of(
-    alloc: Global,
-    entry: &EntryBuffer,
-    options: Options,
-) -> Result<Option<Header>, AllocError>
-    ensures { IfOk result (λ header. IsHeaderOf (own_header options entry.now) header) }
-{
-    if !is_kept_header(entry, options) {
-        return Ok(None);
-    }
-    let text = String::from_str(alloc, entry.form(0))?;
-    Ok(Some(Header {
-        text,
-        line: entry.line(),
-    }))
-}
+use std::alloc::Global;
 
 /// The kept header of a text, if it has one.
 pub(crate) fn kept_header(

@@ -13,7 +13,7 @@ fn served(expr: &PluralExpr, form: u64, n: u64) -> u64
     ensures few { result ≤ 1 }
 {
     match expr.eval(n) {
-        Some(place) if place == form => 1,
+        Some(index) if index == form => 1,
         _ => 0,
     }
 }
@@ -44,7 +44,7 @@ fn forms_served(alloc: Global, expr: &PluralExpr, nplurals: u64) -> Result<Vec<b
 /// Whether each form serves five numbers or more. Nothing is known of the forms without a rule, or if it has more than
 /// 100 forms.
 pub(crate) fn often(alloc: Global, rule: &RuleRead) -> Result<Vec<bool>, AllocError>
-    ensures { IfOk result (λ often. often.items ≡ spec.often (rule_of rule.now)) }
+    ensures { IfOk result (λ often. often.items ≡ spec.often_served (rule_of rule.now)) }
 {
     match rule {
         RuleRead::Given { nplurals, expr } if *nplurals <= 100 => forms_served(

@@ -16,7 +16,7 @@ use Rattle.po_text.specs.Entries as po
 use Rattle.po_text.specs.Outcome.{max_text}
 use Rattle.po_text.specs.declared.fault.PoKind.TheVariants as kinds
 use Rattle.po_text.proofs.Outcomes.{gives_one, gives_or_refuses}
-use Rattle.po_checks.specs.Kept.{key_of, is_header, is_empty, kept, kept_header, is_kept}
+use Rattle.po_checks.specs.Kept.{key_of, is_header, is_empty, kept_entries, kept_header, is_kept}
 use Rattle.po_checks.specs.Fails.{Fails}
 use Rattle.po_checks.specs.declared.options.Options.{Options}
 use Rattle.po_checks.specs.declared.fault.LoadKind.{LoadKind}
@@ -127,7 +127,7 @@ module _ (o : Options) (es : List po.Entry) (m : List Entry) (flags : AllByRecur
 
   accepted : (header : po.Entry) → kept_header o es ≡ Some header → HasAcceptedCharset (first_form header.forms)
   accepted header is =
-      let h = found is_header (kept o es) header is in
+      let h = found is_header (kept_entries o es) header is in
       let has : Contains m (message_of header) = subst (λ (xs : List Entry). Contains xs (message_of header)) same
       (has_map message_of es header (member (is_kept o) es header h.0)) in
       let at : entry_at m [] ≡ Some (message_of header) = header_at m (message_of header) lawful.rises has

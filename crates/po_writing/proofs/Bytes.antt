@@ -11,9 +11,8 @@ use Rattle.std.proofs.lemmas.List.Sums.{take_while-cons}
 use Rattle.std.proofs.lemmas.Str.{IsUtf8-from_ascii, IsUtf8-append, IsUtf8-nil, IsUtf8-encode, encode_ascii}
 use Rattle.std.proofs.lemmas.List.Concat.{flat_map-append}
 use Rattle.std.proofs.Math.Utf8.{encode, encodes, scalar, scalars, scalar_cases}
-use Rattle.po_text.specs.Spelling.{StringUnit, Plain, Escape, Octal, UnitAt, UnitsAt, unit_value, is_plain, escaped}
-use Rattle.po_text.specs.Spelling.{is_octal}
-use Rattle.po_text.specs.Spelling.{octal_run, octal_value}
+use Rattle.po_text.specs.Spelling.{StringUnit, Plain, Escape, Octal, UnitAt, UnitsAt, unit_value, is_plain}
+use Rattle.po_text.specs.Spelling.{escaped_byte, is_octal, octal_run, octal_value}
 use Rattle.po_text.proofs.UnitLemmas.{UnitsAt-nil, UnitsAt-cons}
 use Rattle.po_writing.specs.Written.{letter_of, octal, is_printable, without_letter, written_byte, written_bytes}
 
@@ -61,7 +60,7 @@ octal_unit b rest small =
 -- ---- one byte
 
 -- a byte has a letter that stands for it, or it is plain
-letter_cases : (b : ℕ) → ((c : ℕ) × (letter_of b ≡ Some c) × (escaped c ≡ Some b) × (c < 128))
+letter_cases : (b : ℕ) → ((c : ℕ) × (letter_of b ≡ Some c) × (escaped_byte c ≡ Some b) × (c < 128))
     ⊎ ((letter_of b ≡ None) × (is_plain b ≡ true))
 letter_cases b = elim (cases_eq b 7) [
   | inl e ↦ rw e (inl (97, refl, refl, omega arith))

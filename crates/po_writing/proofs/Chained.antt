@@ -10,7 +10,7 @@ use Rattle.byte_text.specs.Chain.{Chain}
 use Rattle.po_text.specs.Spelling.{Token, Context, Id, Plural, Str, Number, Piece, White, Word, OpenBracket}
 use Rattle.po_text.specs.Spelling.{CloseBracket, Quoted, PieceAt, IsLawful, is_word_byte, word_token}
 use Rattle.po_text.proofs.Chains.{Chain-append}
-use Rattle.po_writing.specs.Written.{written_bytes, literal, parts_of, written_string, written_context, indexed}
+use Rattle.po_writing.specs.Written.{written_bytes, literal, parts_of, written_string, written_context, indexed_keyword}
 use Rattle.po_writing.specs.Written.{written_forms, written_translation, written_entry, po_of}
 use Rattle.po_writing.proofs.Bytes.{written_units, bytes_of_utf8}
 use Rattle.po_writing.proofs.Parts.{all_parts, utf8_parts}
@@ -119,7 +119,7 @@ context_chain escape (Some context) rest h = keyword_chain escape (codes "msgctx
 
 form_chain : (escape : Bool) (k : ℕ) (form rest : List ℕ) → k < 1000000000 → IsString form → Chain PieceAt
     (Word (codes "msgstr") Str ∷ OpenBracket ∷ Word (decimal k) (Number k) ∷ CloseBracket ∷ string_pieces form)
-    (written_string escape (indexed k) form ++ rest) rest
+    (written_string escape (indexed_keyword k) form ++ rest) rest
 form_chain escape k form rest few h =
     let string = 32 ∷ flat_map (literal escape) (parts_of form) in
     let back = ((decimal k ++ 93 ∷ []) ++ string) ++ rest in
@@ -147,7 +147,7 @@ forms_chain : (escape : Bool) (k : ℕ) (forms : List (List ℕ)) (rest : List �
 forms_chain escape k [] rest few h = refl
 forms_chain escape k (form ∷ more) rest few h =
     let later = written_forms escape (k + 1) more in
-    let one = written_string escape (indexed k) form in
+    let one = written_string escape (indexed_keyword k) form in
     Chain-append PieceAt
     (Word (codes "msgstr") Str ∷ OpenBracket ∷ Word (decimal k) (Number k) ∷ CloseBracket ∷ string_pieces form)
     (form_pieces (k + 1) more) ((one ++ later) ++ rest) (later ++ rest) rest

@@ -15,12 +15,12 @@ use Rattle.po_text.specs.Outcome.{max_text}
 use Rattle.po_text.proofs.Outcomes.{gives_one}
 use Rattle.po_checks.specs.Kept.{has_empty_form, is_kept}
 use Rattle.po_checks.specs.declared.options.Options.{Options}
-use Rattle.catalogue.specs.Meaning.{message_of, kept, IsMapOf, Means}
+use Rattle.catalogue.specs.Meaning.{message_of, kept_entries, IsMapOf, Means}
 use Rattle.catalogue.specs.declared.compiler.Compiled.{Compiled}
 use Rattle.catalogue.proofs.Members.{has_cases, has_head, has_tail}
 use Rattle.catalogue.proofs.OneMeaning.{rises_behind, below_members, meaning_one}
 use Rattle.po_writing.specs.Written.{po_of}
-use Rattle.po_writing.specs.Laws.{HasNoFlag, is_translated, translated}
+use Rattle.po_writing.specs.Laws.{HasNoFlag, is_translated, translated_entries}
 use Rattle.po_writing.proofs.Told.{tells}
 
 -- ---- the kept entries
@@ -33,7 +33,7 @@ kept_one o e h = let plain = h.not_fuzzy in rw plain (both (not (has_empty_form 
     both false = refl
 
 kept_messages : (o : Options) (entries : List po.Entry) → AllByRecursion HasNoFlag entries
-    → map message_of (kept o entries) ≡ translated (map message_of entries)
+    → map message_of (kept_entries o entries) ≡ translated_entries (map message_of entries)
 kept_messages o [] h = refl
 kept_messages o (e ∷ more) h =
     let same = kept_one o e h.0 in
@@ -73,21 +73,22 @@ rises_filter p (e ∷ m) rises =
     ]
 
 kept_map : (o : Options) (entries : List po.Entry) (m : List Entry) → AllByRecursion HasNoFlag entries
-    → map message_of entries ≡ m → Rises (map key m) → IsMapOf (kept o entries) (translated m)
+    → map message_of entries ≡ m → Rises (map key m) → IsMapOf (kept_entries o entries) (translated_entries m)
 kept_map o entries m h same rises =
-    let are : map message_of (kept o entries) ≡ translated m = kept_messages o entries h ∙ ap translated same in
+    let are : map message_of (kept_entries o entries) ≡ translated_entries m = kept_messages o entries h
+    ∙ ap translated_entries same in
     record {
       rises = rises_filter is_translated m rises;
-      listed = subst (λ (xs : List Entry). All (Contains (translated m)) xs) (sym are)
-          (All-contains_itself (translated m));
-      nothing_else = subst (λ (xs : List Entry). All (Contains xs) (translated m)) (sym are)
-          (All-contains_itself (translated m));
+      listed = subst (λ (xs : List Entry). All (Contains (translated_entries m)) xs) (sym are)
+          (All-contains_itself (translated_entries m));
+      nothing_else = subst (λ (xs : List Entry). All (Contains xs) (translated_entries m)) (sym are)
+          (All-contains_itself (translated_entries m));
     }
 
 -- ---- the law
 
 pub compiles : (escape : Bool) (m : List Entry) (o : Options) (compiled : Compiled) → IsLawful m
-    → length (po_of escape m) ≤ max_text → Means (po_of escape m) o compiled → compiled.catalogue ≡ translated m
+    → length (po_of escape m) ≤ max_text → Means (po_of escape m) o compiled → compiled.catalogue ≡ translated_entries m
 compiles escape m o compiled lawful short means =
     let told = tells escape m lawful short in
     let same : told.entries ≡ means.entries = gives_one (po_of escape m) told.entries means.entries told.gives
@@ -95,7 +96,7 @@ compiles escape m o compiled lawful short means =
     let flags = subst (λ (es : List po.Entry). AllByRecursion HasNoFlag es) same told.no_flags in
     let messages : map message_of means.entries ≡ m = ap (λ (es : List po.Entry). map message_of es) (sym same)
     ∙ told.messages_are in
-    let other : Compiled = record compiled { catalogue = translated m } in
+    let other : Compiled = record compiled { catalogue = translated_entries m } in
     let meant : Means (po_of escape m) o other = record {
       entries = means.entries;
       gives = means.gives;

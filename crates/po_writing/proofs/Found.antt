@@ -6,8 +6,7 @@ use Rattle.std.specs.List.{AllByRecursion, flat_map, concat}
 use Rattle.message.specs.Message.{Entry, first_form, LacksByte, HasForms}
 use Rattle.byte_text.specs.Chain.{Chain}
 use Rattle.po_text.specs.Spelling.{Token, Context, Id, Plural, Str, Number, Open, Close, Text, Piece, White, Comment}
-use Rattle.po_text.specs.Spelling.{Word}
-use Rattle.po_text.specs.Spelling.{OpenBracket, CloseBracket, Quoted, Lexeme, lexemes, newlines}
+use Rattle.po_text.specs.Spelling.{Word, OpenBracket, CloseBracket, Quoted, Lexeme, lexemes, newlines}
 use Rattle.po_text.specs.Entries as po
 use Rattle.po_text.specs.Entries.{Strings, Part, PlainPart, PluralPart, Derivation, texts, context_tokens, form_tokens}
 use Rattle.po_text.specs.Entries.{part_tokens, tokens_of, IsLawfulEntry, IsKeyText, IsLawfulContext, IsLawfulPart}

@@ -8,7 +8,7 @@ use Rattle.std.specs.Fmt.{decimal}
 use Rattle.std.proofs.lemmas.Bool.{cases_Bool, ltb-true}
 use Rattle.std.proofs.lemmas.Str.{IsUtf8-append, IsUtf8-nil}
 use Rattle.message.specs.Message.{Entry, first_form}
-use Rattle.po_writing.specs.Written.{written_bytes, literal, parts_of, written_string, written_context, indexed}
+use Rattle.po_writing.specs.Written.{written_bytes, literal, parts_of, written_string, written_context, indexed_keyword}
 use Rattle.po_writing.specs.Written.{written_forms, written_translation, written_entry, po_of}
 use Rattle.po_writing.proofs.Bytes.{AreAscii, utf8_from_ascii, written_utf8}
 use Rattle.po_writing.proofs.Parts.{utf8_parts}
@@ -48,16 +48,16 @@ context_utf8 : (escape : Bool) (context : Option (List ℕ)) → IfSome context 
 context_utf8 escape None h = IsUtf8-nil
 context_utf8 escape (Some context) h = string_utf8 escape (codes "msgctxt") context (ascii (codes "msgctxt") refl) h
 
-indexed_utf8 : (k : ℕ) → k < 1000000000 → IsUtf8 (indexed k)
+indexed_utf8 : (k : ℕ) → k < 1000000000 → IsUtf8 (indexed_keyword k)
 indexed_utf8 k few = IsUtf8-append (codes "msgstr[") (decimal k ++ codes "]") (ascii (codes "msgstr[") refl)
     (IsUtf8-append (decimal k) (codes "]") (utf8_from_ascii (decimal k) (index_ascii k few)) (ascii (codes "]") refl))
 
 forms_utf8 : (escape : Bool) (k : ℕ) (forms : List (List ℕ)) → k + length forms ≤ 1000000000
     → AllByRecursion IsString forms → IsUtf8 (written_forms escape k forms)
 forms_utf8 escape k [] few h = IsUtf8-nil
-forms_utf8 escape k (form ∷ more) few h = IsUtf8-append (written_string escape (indexed k) form)
+forms_utf8 escape k (form ∷ more) few h = IsUtf8-append (written_string escape (indexed_keyword k) form)
     (written_forms escape (k + 1) more)
-    (string_utf8 escape (indexed k) form (indexed_utf8 k (omega arith)) h.0)
+    (string_utf8 escape (indexed_keyword k) form (indexed_utf8 k (omega arith)) h.0)
     (forms_utf8 escape (k + 1) more (omega arith) h.1)
 
 translation_utf8 : (escape : Bool) (plural : Option (List ℕ)) (forms : List (List ℕ)) → IfSome plural IsString

@@ -26,5 +26,5 @@ abbrev pub is_translated : Entry → Bool
 is_translated e = not (has_empty_form e.forms)
 
 -- the entries that a compiler keeps of a map
-abbrev pub translated : List Entry → List Entry
-translated m = filter is_translated m
+abbrev pub translated_entries : List Entry → List Entry
+translated_entries m = filter is_translated m

@@ -82,13 +82,14 @@ written_context escape None = []
 written_context escape (Some context) = written_string escape (codes "msgctxt") context
 
 -- `msgstr[k]`
-abbrev pub indexed : ℕ → List ℕ
-indexed k = codes "msgstr[" ++ (decimal k ++ codes "]")
+abbrev pub indexed_keyword : ℕ → List ℕ
+indexed_keyword k = codes "msgstr[" ++ (decimal k ++ codes "]")
 
 -- the plural forms, numbered from k
 abbrev pub written_forms : Bool → ℕ → List (List ℕ) → List ℕ
 written_forms escape k [] = []
-written_forms escape k (form ∷ more) = written_string escape (indexed k) form ++ written_forms escape (k + 1) more
+written_forms escape k (form ∷ more) = written_string escape (indexed_keyword k) form
+    ++ written_forms escape (k + 1) more
 
 -- the translation of a message without a plural, or the plural and its forms
 abbrev pub written_translation : Bool → Option (List ℕ) → List (List ℕ) → List ℕ

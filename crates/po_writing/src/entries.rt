@@ -1,6 +1,6 @@
 //! Entries of a PO text (GNU gettext manual, "PO Files").
 ghost use Rattle.std.specs.Prelude.{◌≡◌, ◌<◌, ◌≤◌, ◌++◌, length, OnOk, option_map};
-ghost use Rattle.po_writing.specs.Written.{indexed, written_context, written_entry, written_forms};
+ghost use Rattle.po_writing.specs.Written.{indexed_keyword, written_context, written_entry, written_forms};
 ghost use Rattle.po_writing.specs.Written.{written_string, written_translation};
 
 use crate::literals::push_text;
@@ -23,7 +23,7 @@ fn push_string(
 
 /// Appends the plural form with this index.
 fn push_form(out: &mut Vec<u8>, k: usize, form: &str, escape: bool) -> Result<(), AllocError>
-    ensures { OnOk result (out.new.items ≡ out.old.items ++ written_string escape (indexed k) form.now) }
+    ensures { OnOk result (out.new.items ≡ out.old.items ++ written_string escape (indexed_keyword k) form.now) }
 {
     let mut buffer = Buffer::new();
     out.extend_from_slice(b"msgstr[")?;

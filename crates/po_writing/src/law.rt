@@ -7,7 +7,7 @@ ghost use Rattle.catalogue.specs.Meaning.{Means, Refuses};
 ghost use Rattle.po_checks.specs.declared.fault.LoadKind.{LoadKind};
 ghost use Rattle.catalogue.specs.declared.Compiled.{Compiled};
 ghost use Rattle.po_checks.specs.declared.options.Options.{Options};
-ghost use Rattle.po_writing.specs.Laws.{Tells, translated};
+ghost use Rattle.po_writing.specs.Laws.{Tells, translated_entries};
 ghost use Rattle.po_writing.specs.Written.{po_of};
 
 /// The text that is written of a lawful map is read as the entries of that map, in their order and without flags.
@@ -20,7 +20,7 @@ pub fn written_is_read()
 pub fn written_is_compiled()
     ensures { (escape : Bool) (m : List Entry) (options : Options) (compiled : Compiled) → IsLawful m
         → length (po_of escape m) ≤ max_text → Means (po_of escape m) options compiled
-        → compiled.catalogue ≡ translated m }
+        → compiled.catalogue ≡ translated_entries m }
 {}
 
 /// That text isn't refused, unless formats, newlines and plural rules are checked as well.

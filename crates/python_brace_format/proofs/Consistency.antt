@@ -4,7 +4,8 @@ use Rattle.std.specs.Prelude.{◌&&◌, ◌||◌}
 use Rattle.std.specs.List.{list_all, flat_map}
 use Rattle.std.proofs.lemmas.Bool.{cases_Bool}
 use Rattle.format_arguments.specs.declared.Kind.TheVariants.{Any}
-use Rattle.format_arguments.specs.Arguments.{Argument, same_name, compatible, all_compatible, is_named, is_consistent}
+use Rattle.format_arguments.specs.Arguments.{Argument, same_name, are_compatible, all_compatible, is_named}
+use Rattle.format_arguments.specs.Arguments.{is_consistent}
 use Rattle.python_brace_format.specs.BraceDirectives.{asks}
 
 all_named : (directives : List (Option (List ℕ))) → list_all is_named (flat_map asks directives) ≡ true
@@ -22,7 +23,7 @@ or_true : (a b : Bool) → a ≡ true → (a || b) ≡ true
 or_true a b e = rw e refl
 
 any_compatible : (name : List ℕ) (others : List Argument)
-    → list_all (λ other. compatible (any name) other) others ≡ true
+    → list_all (λ other. are_compatible (any name) other) others ≡ true
 any_compatible name [] = refl
 any_compatible name (other ∷ others) = elim (cases_Bool (same_name (any name) other)) [
   | inl e ↦ rw e (any_compatible name others)

@@ -4,8 +4,7 @@ use Rattle.std.proofs.Common.{◌∙◌, subst, arith, inl, inr}
 use Rattle.std.proofs.lemmas.List.{append_cancel_right, length-append}
 use Rattle.format_arguments.specs.Text.{AreDirectives}
 use Rattle.python_brace_format.specs.BraceFields.{FieldAt}
-use Rattle.python_brace_format.specs.BraceSpecifiers.{open_brace, close_brace, NestedAt, SpecifierAt}
-use Rattle.python_brace_format.specs.BraceSpecifiers.{FormatAt}
+use Rattle.python_brace_format.specs.BraceSpecifiers.{open_brace, close_brace, NestedAt, SpecifierAt, FormatAt}
 use Rattle.python_brace_format.specs.BraceDirectives.{ReplacementAt, DirectiveAt}
 use Rattle.python_brace_format.proofs.FieldLemmas.{field_one}
 

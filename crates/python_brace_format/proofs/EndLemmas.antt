@@ -1,16 +1,14 @@
 -- What follows a field and its format is an end of the text.
-use Rattle.std.proofs.Common.{◌≡◌, ℕ, ◌==◌, ◌-◌, ◌≤◌, Bool, List, [], ◌∷◌, ◌++◌, length, take, refl, sym}
-use Rattle.std.proofs.Common.{ap, subst, ◌∙◌}
-use Rattle.std.proofs.Common.{inl, inr, arith}
+use Rattle.std.proofs.Common.{◌≡◌, ℕ, ◌==◌, ◌-◌, ◌≤◌, Bool, List, [], ◌∷◌, ◌++◌, length, take, refl, sym, ap, subst}
+use Rattle.std.proofs.Common.{◌∙◌, inl, inr, arith}
 use Rattle.std.specs.Char.{is_ascii_digit}
 use Rattle.std.proofs.lemmas.Bool.{cases_Bool}
 use Rattle.std.proofs.lemmas.List.{length-append, take-append-le, take_all}
 use Rattle.format_arguments.specs.Bytes.{behind, behind_one}
 use Rattle.python_brace_format.specs.BraceFields.{dot, FieldAt}
 use Rattle.python_brace_format.specs.BraceSpecifiers.{open_brace, close_brace, colon, is_align, is_sign, is_hash}
-use Rattle.python_brace_format.specs.BraceSpecifiers.{is_type}
-use Rattle.python_brace_format.specs.BraceSpecifiers.{behind_filled_align, behind_precision, behind_standard, NestedAt}
-use Rattle.python_brace_format.specs.BraceSpecifiers.{SpecifierAt, FormatAt}
+use Rattle.python_brace_format.specs.BraceSpecifiers.{is_type, behind_filled_align, behind_precision, behind_standard}
+use Rattle.python_brace_format.specs.BraceSpecifiers.{NestedAt, SpecifierAt, FormatAt}
 use Rattle.python_brace_format.proofs.FieldLemmas.{IsEnd, end_of_end, end_more, behind_end, field_end}
 
 whole_end : (text : List ℕ) → IsEnd text text

@@ -1,22 +1,11 @@
 -- Field names of Python's brace formats, and what a field accesses (PEP 3101, "Format Strings"; GNU gettext manual,
 -- "Python Format Strings").
+pub use Rattle.byte_text.specs.Characters.{dot, open_bracket, close_bracket, underscore}
 use Rattle.std.specs.Prelude.{◌≡◌, ℕ, zero, suc, Bool, ◌||◌, ◌==◌, if◌then◌else◌, List, [], ◌∷◌, Option, None, Some}
 use Rattle.std.specs.Char.{is_ascii_alphabetic, is_ascii_alphanumeric, is_ascii_digit}
 use Rattle.format_arguments.specs.Bytes.{behind}
 
 -- ---- the special characters
-
-abbrev pub dot : ℕ
-dot = 46
-
-abbrev pub open_bracket : ℕ
-open_bracket = 91
-
-abbrev pub close_bracket : ℕ
-close_bracket = 93
-
-abbrev pub underscore : ℕ
-underscore = 95
 
 -- ---- names and numbers
 

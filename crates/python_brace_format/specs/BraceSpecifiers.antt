@@ -1,18 +1,10 @@
 -- Format specifiers, which stand behind a field's colon (PEP 3101, "Standard Format Specifiers").
+pub use Rattle.byte_text.specs.Characters.{open_brace, close_brace, colon}
 use Rattle.std.specs.Prelude.{◌≡◌, ℕ, Bool, ◌==◌, ◌⊎◌, if◌then◌else◌, List, [], ◌∷◌, codes}
 use Rattle.std.specs.List.{list_any}
 use Rattle.std.specs.Char.{is_ascii_digit}
 use Rattle.format_arguments.specs.Bytes.{behind, behind_one, BeginsNot}
 use Rattle.python_brace_format.specs.BraceFields.{dot, FieldAt}
-
-abbrev pub open_brace : ℕ
-open_brace = 123
-
-abbrev pub close_brace : ℕ
-close_brace = 125
-
-abbrev pub colon : ℕ
-colon = 58
 
 -- ---- a standard format specifier
 

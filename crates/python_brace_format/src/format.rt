@@ -1,6 +1,5 @@
 //! Whole formats: directives, and the plain text between them.
-ghost use Rattle.std.specs.Prelude.{◌≡◌, ℕ, List, ◌++◌, ◌∷◌, Option, map, option_map, IfOk, IfErr, OnOk};
-ghost use Rattle.std.specs.Prelude.{MatchOption};
+ghost use Rattle.std.specs.Prelude.{◌≡◌, ℕ, List, ◌++◌, ◌∷◌, Option, map, option_map, IfOk, IfErr, OnOk, MatchOption};
 ghost use Rattle.format_arguments.specs.Arguments.{Argument as Asked};
 ghost use Rattle.format_arguments.specs.ArgumentViews.{argument_view};
 ghost use Rattle.python_brace_format.specs.BraceSpecifiers.{open_brace};

@@ -6,10 +6,9 @@ use Rattle.std.specs.Char.{is_ascii_digit}
 use Rattle.std.proofs.lemmas.List.{length-append, length-drop}
 use Rattle.std.proofs.lemmas.Bool.{cases_Bool}
 use Rattle.python_format.specs.declared.parts.Amount.TheVariants.{Star, Fixed}
-use Rattle.python_format.specs.PythonPieces.{is_modifier}
+use Rattle.python_format.specs.PythonPieces.{is_modifier, percent, is_flag, NameAt, AmountAt, PrecisionAt}
+use Rattle.python_format.specs.PythonPieces.{behind_modifier, kind_of}
 use Rattle.python_format.specs.declared.parts.Amount.{Amount}
-use Rattle.python_format.specs.PythonPieces.{percent, is_flag, NameAt, AmountAt, PrecisionAt, behind_modifier}
-use Rattle.python_format.specs.PythonPieces.{kind_of}
 use Rattle.python_format.specs.PythonDirectives.{Directive, DirectiveAt}
 use Rattle.format_arguments.specs.Bytes.{behind}
 use Rattle.format_arguments.specs.Text.{AreDirectives}

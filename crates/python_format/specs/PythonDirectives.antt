@@ -6,8 +6,7 @@ use Rattle.python_format.specs.declared.parts.Amount.{Amount}
 use Rattle.python_format.specs.declared.parts.Amount.TheVariants.{Star, Fixed}
 use Rattle.format_arguments.specs.Arguments.{Argument}
 use Rattle.format_arguments.specs.Bytes.{behind}
-use Rattle.python_format.specs.PythonPieces.{percent, is_flag, NameAt, AmountAt, PrecisionAt, behind_modifier}
-use Rattle.python_format.specs.PythonPieces.{kind_of}
+use Rattle.python_format.specs.PythonPieces.{percent, is_flag, NameAt, AmountAt, PrecisionAt, behind_modifier, kind_of}
 
 pub record Directive : Type 0 where
   pub name : Option (List ℕ)

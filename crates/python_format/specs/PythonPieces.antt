@@ -1,5 +1,6 @@
 -- The parts of a directive of Python's `%` (GNU gettext manual, "Python Format Strings"; Python's library reference,
 -- "printf-style String Formatting").
+pub use Rattle.byte_text.specs.Characters.{percent, star, dot}
 use Rattle.std.specs.Prelude.{◌≡◌, ℕ, zero, suc, ◌+◌, Bool, not, ◌&&◌, ◌==◌, if◌then◌else◌, List, ◌∷◌, ◌++◌}
 use Rattle.std.specs.Prelude.{Option, None, Some, ◌⊎◌, codes, length}
 use Rattle.std.specs.List.{fold, list_all, list_any}
@@ -12,20 +13,11 @@ use Rattle.python_format.specs.declared.parts.Amount.TheVariants.{Star, Fixed}
 
 -- ---- the special characters of formats
 
-abbrev pub percent : ℕ
-percent = 37
-
 abbrev pub open_parenthesis : ℕ
 open_parenthesis = 40
 
 abbrev pub close_parenthesis : ℕ
 close_parenthesis = 41
-
-abbrev pub star : ℕ
-star = 42
-
-abbrev pub dot : ℕ
-dot = 46
 
 -- ---- names
 

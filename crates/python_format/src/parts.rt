@@ -28,18 +28,18 @@ fn name_len(text: &[u8]) -> Option<usize>
         (λ n. (n < length text.now) × (get_or text.now n 0 ≡ close_parenthesis) × IsBalanced (take n text.now)) }
 {
     let mut depth: usize = 0;
-    let mut place: usize = 0;
-    'bytes: while place < text.len() {
-        let byte = text[place];
+    let mut offset: usize = 0;
+    'bytes: while offset < text.len() {
+        let byte = text[offset];
         if byte == b'(' {
             depth += 1;
         } else if byte == b')' {
             if depth == 0 {
-                return Some(place);
+                return Some(offset);
             }
             depth -= 1;
         }
-        place += 1;
+        offset += 1;
     }
     None
 }

@@ -12,10 +12,9 @@ use Rattle.format_arguments.specs.Text.{is_plain}
 use Rattle.format_arguments.specs.declared.Kind.{Kind}
 use Rattle.ruby_format.specs.declared.parts.Amount.{Amount}
 use Rattle.ruby_format.specs.RubyPieces.{percent, newline, star, dot, less, greater, open_brace, close_brace, number_of}
-use Rattle.ruby_format.specs.RubyPieces.{Name, Part, Flag, To, Width, Precision, Ending, Asks, Braces}
-use Rattle.ruby_format.specs.RubyPieces.{before_dollar, numeral_at, closed_name, name_at, asked_by, star_at}
-use Rattle.ruby_format.specs.RubyPieces.{precision_at, is_flag, digits_as, digits_at, marked_at, part_at, kind_of}
-use Rattle.ruby_format.specs.RubyPieces.{ending_at}
+use Rattle.ruby_format.specs.RubyPieces.{Name, Part, Flag, To, Width, Precision, Ending, Asks, Braces, before_dollar}
+use Rattle.ruby_format.specs.RubyPieces.{numeral_at, closed_name, name_at, asked_by, star_at, precision_at, is_flag}
+use Rattle.ruby_format.specs.RubyPieces.{digits_as, digits_at, marked_at, part_at, kind_of, ending_at}
 
 -- ---- numbers
 

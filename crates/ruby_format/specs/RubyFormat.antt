@@ -41,12 +41,12 @@ with_number kinds (Number number) (Some kind) = insert_entry nat_cmp kinds numbe
 with_number kinds _ _ = kinds
 
 -- the kinds, with that of an argument that is asked for by its number at its place
-abbrev pub placed : List (ℕ × Kind) → Reference → List (ℕ × Kind)
-placed kinds r = with_number kinds r.to r.kind
+abbrev pub kinds_with : List (ℕ × Kind) → Reference → List (ℕ × Kind)
+kinds_with kinds r = with_number kinds r.to r.kind
 
 -- the numbers that are asked for, in rising order, each once, with its kind
 abbrev pub by_number : List Reference → List (ℕ × Kind)
-by_number rs = fold placed [] rs
+by_number rs = fold kinds_with [] rs
 
 abbrev pub is_kind : Option Kind → Kind → Bool
 is_kind None kind = false

@@ -1,5 +1,6 @@
 -- The parts of a directive of Ruby's formats (GNU gettext manual, "Ruby Format Strings"; Ruby's documentation,
 -- Kernel#sprintf).
+pub use Rattle.byte_text.specs.Characters.{percent, dollar, star, dot, less, open_brace, close_brace}
 use Rattle.std.specs.Prelude.{ℕ, Bool, ◌||◌, ◌==◌, if◌then◌else◌, List, [], ◌∷◌, Option, None, Some, codes, min}
 use Rattle.std.specs.List.{list_any}
 use Rattle.std.specs.Prelude.{option_map}
@@ -14,32 +15,11 @@ use Rattle.ruby_format.specs.declared.parts.Amount.TheVariants as amounts
 
 -- ---- the special characters of formats
 
-abbrev pub percent : ℕ
-percent = 37
-
 abbrev pub newline : ℕ
 newline = 10
 
-abbrev pub dollar : ℕ
-dollar = 36
-
-abbrev pub star : ℕ
-star = 42
-
-abbrev pub dot : ℕ
-dot = 46
-
-abbrev pub less : ℕ
-less = 60
-
 abbrev pub greater : ℕ
 greater = 62
-
-abbrev pub open_brace : ℕ
-open_brace = 123
-
-abbrev pub close_brace : ℕ
-close_brace = 125
 
 -- ---- the ways to an argument
 

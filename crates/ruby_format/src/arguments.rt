@@ -46,9 +46,9 @@ fn are_one_way(references: &[Reference<'_>]) -> bool
 }
 
 /// Puts the kind of an argument that is asked for by its number at its place.
-fn place(kinds: &mut BTreeMap<u32, Kind>, reference: Reference<'_>) -> Result<(), AllocError>
+fn put(kinds: &mut BTreeMap<u32, Kind>, reference: Reference<'_>) -> Result<(), AllocError>
     ensures { OnOk result (kinds.new.entries
-        ≡ spec.placed kinds.old.entries (reference_view reference.entry)) }
+        ≡ spec.kinds_with kinds.old.entries (reference_view reference.entry)) }
 {
     if let (Way::Number(number), Some(kind)) = (reference.to, reference.kind) {
         kinds.insert(number, kind)?;
@@ -65,7 +65,7 @@ pub(crate) fn by_number(
 {
     let mut kinds = BTreeMap::new(alloc);
     'references: for reference in references {
-        place(&mut kinds, *reference)?;
+        put(&mut kinds, *reference)?;
     }
     Ok(kinds)
 }

@@ -8,10 +8,10 @@ use Rattle.numbered_arguments.specs.declared.Kind.TheVariants.{Integer}
 use Rattle.numbered_arguments.specs.declared.Size.TheVariants.{Plain}
 use Rattle.numbered_arguments.specs.declared.Request.{Request}
 use Rattle.script_formats.specs.declared.directive.Directive.{Directive}
-use Rattle.script_formats.specs.ScriptParts.{argument, printed, place, is_flag}
-use Rattle.script_formats.specs.AwkDirectives.{star_of, amount, precision, asked_by, made_if, converted}
-use Rattle.script_formats.specs.AwkDirectives.{behind_precision, behind_width, placed, directive}
-use Rattle.script_formats.proofs.PartLemmas.{Within, some_is, behind_within, place_within}
+use Rattle.script_formats.specs.ScriptParts.{argument, printing_directive, index_at, is_flag}
+use Rattle.script_formats.specs.AwkDirectives.{star_of, amount, precision, asked_by, made_if, conversion_at}
+use Rattle.script_formats.specs.AwkDirectives.{behind_precision, behind_width, with_number, directive}
+use Rattle.script_formats.proofs.PartLemmas.{Within, some_is, behind_within, index_within}
 
 star_of_within : (text : List ℕ) (found : Option (Option ℕ × List ℕ)) → Within (Option ℕ) text found
     → Within (Option Request) text (star_of found)
@@ -22,7 +22,7 @@ star_of_within text (Some x) h p e = some_is (Option Request) (argument x.0 (Som
 pub amount_within : (text : List ℕ) → Within (Option Request) text (amount text)
 amount_within [] p e = some_is (Option Request) (None, []) p 0 e (omega arith)
 amount_within (b ∷ more) p e = elim (cases_Bool (b == 42)) [
-  | inl is ↦ omega (arith, star_of_within more (place more) (place_within more) p (rw is at e))
+  | inl is ↦ omega (arith, star_of_within more (index_at more) (index_within more) p (rw is at e))
   | inr other ↦ some_is (Option Request) (None, behind is_ascii_digit (b ∷ more)) p (length (b ∷ more))
       (rw other at e) (behind_within is_ascii_digit (b ∷ more))
 ]
@@ -38,10 +38,10 @@ made_within : (number : Option ℕ) (w p : Option Request) (rest : List ℕ) (ki
     → Within Directive rest (made_if number w p rest kind)
 made_within number w p rest None q e = absurd (cc e)
 made_within number w p rest (Some kind) q e =
-    some_is Directive (printed w p (argument number kind), rest) q (length rest) e (omega arith)
+    some_is Directive (printing_directive w p (argument number kind), rest) q (length rest) e (omega arith)
 
 converted_within : (number : Option ℕ) (w p : Option Request) (text : List ℕ)
-    → Within Directive text (converted number w p text)
+    → Within Directive text (conversion_at number w p text)
 converted_within number w p [] q e = absurd (cc e)
 converted_within number w p (b ∷ more) q e = omega (arith, made_within number w p more (asked_by b) q e)
 
@@ -62,7 +62,7 @@ behind_width_within number text (Some x) h q e = omega (
 )
 
 placed_within : (text : List ℕ) (found : Option (Option ℕ × List ℕ)) → Within (Option ℕ) text found
-    → Within Directive text (placed found)
+    → Within Directive text (with_number found)
 placed_within text None h q e = absurd (cc e)
 placed_within text (Some x) h q e =
     let flags = behind is_flag x.1 in
@@ -74,4 +74,4 @@ placed_within text (Some x) h q e =
     )
 
 pub directive_within : (text : List ℕ) → Within Directive text (directive text)
-directive_within text = placed_within text (place text) (place_within text)
+directive_within text = placed_within text (index_at text) (index_within text)

@@ -7,7 +7,7 @@ use Rattle.std.proofs.lemmas.Bool.{cases_Bool}
 use Rattle.std.proofs.lemmas.List.{length-drop}
 use Rattle.format_arguments.specs.Bytes.{run, behind}
 use Rattle.numbered_arguments.specs.NumberedArguments.{number_of}
-use Rattle.script_formats.specs.ScriptParts.{dollar, dollar_at, number_at, place_of, place, amount}
+use Rattle.script_formats.specs.ScriptParts.{dollar, dollar_at, number_at, index_from, index_at, amount}
 use Rattle.script_formats.specs.ScriptParts.{behind_precision, behind_percent}
 
 abbrev pub Within : (A : Type 0) → List ℕ → Option (A × List ℕ) → Type 0
@@ -36,15 +36,15 @@ number_within text p e = omega (
 )
 
 place_of_within : (text : List ℕ) (found : Option (ℕ × List ℕ)) → Within ℕ text found
-    → Within (Option ℕ) text (place_of text found)
+    → Within (Option ℕ) text (index_from text found)
 place_of_within text None h p e = some_is (Option ℕ) (None, text) p (length text) e (omega arith)
 place_of_within text (Some x) h p e = elim (cases_Bool (x.0 == 0)) [
   | inl none ↦ absurd (cc (rw none at e))
   | inr other ↦ some_is (Option ℕ) (Some x.0, x.1) p (length text) (rw other at e) (h x refl)
 ]
 
-pub place_within : (text : List ℕ) → Within (Option ℕ) text (place text)
-place_within text = place_of_within text (number_at text) (number_within text)
+pub index_within : (text : List ℕ) → Within (Option ℕ) text (index_at text)
+index_within text = place_of_within text (number_at text) (number_within text)
 
 pub precision_within : (text : List ℕ) → length (behind_precision text) ≤ length text
 precision_within [] = omega arith

@@ -9,10 +9,11 @@ use Rattle.numbered_arguments.specs.declared.Request.{Request}
 use Rattle.numbered_arguments.specs.NumberedArguments.{number_of}
 use Rattle.script_formats.specs.declared.directive.Directive.{Directive}
 use Rattle.script_formats.specs.declared.pascal.Index.{Index}
-use Rattle.script_formats.specs.ScriptParts.{printed, behind_percent, following, amount}
-use Rattle.script_formats.specs.PascalDirectives.{behind_colon, behind_given, own_of, own, own_or_next, index_of, index}
-use Rattle.script_formats.specs.PascalDirectives.{amount_there, precision, asked_by, made, made_if, converted}
-use Rattle.script_formats.specs.PascalDirectives.{behind_precision, is_minus, back, asking, directive}
+use Rattle.script_formats.specs.ScriptParts.{printing_directive, behind_percent, following_number, amount}
+use Rattle.script_formats.specs.PascalDirectives.{behind_colon, behind_given, own_of, own_index, own_or_next, index_of}
+use Rattle.script_formats.specs.PascalDirectives.{index, amount_there, precision, asked_by, directive_of, made_if}
+use Rattle.script_formats.specs.PascalDirectives.{conversion_at, behind_precision, is_minus, back, unless_percent}
+use Rattle.script_formats.specs.PascalDirectives.{directive}
 use Rattle.script_formats.proofs.PartLemmas.{Within, some_is, behind_within, amount_within, percent_within}
 
 abbrev Shrinks : List ℕ → Option (List ℕ) → Type 0
@@ -41,9 +42,9 @@ own_of_within : (number : ℕ) (text : List ℕ) (found : Option (List ℕ)) →
     → Within ℕ text (own_of number found)
 own_of_within number text None h p e = absurd (cc e)
 own_of_within number text (Some rest) h p e =
-    some_is ℕ (following number, rest) p (length text) e (h rest refl)
+    some_is ℕ (following_number number, rest) p (length text) e (h rest refl)
 
-own_within : (text : List ℕ) → Within ℕ text (own text)
+own_within : (text : List ℕ) → Within ℕ text (own_index text)
 own_within text p e =
     let digits = behind is_ascii_digit text in
     omega (
@@ -59,7 +60,7 @@ own_or_next_within text (Some x) h = h x refl
 
 index_of_within : (text : List ℕ) (given : Option (List ℕ)) → Shrinks text given
     → length (index_of text given).1 ≤ length text
-index_of_within text None h = own_or_next_within text (own text) (own_within text)
+index_of_within text None h = own_or_next_within text (own_index text) (own_within text)
 index_of_within text (Some rest) h = h rest refl
 
 index_within : (text : List ℕ) → length (index text).1 ≤ length text
@@ -91,10 +92,10 @@ made_within : (which : Index) (w p : Option Request) (rest : List ℕ) (kind : O
     → Within Directive rest (made_if which w p rest kind)
 made_within which w p rest None q e = absurd (cc e)
 made_within which w p rest (Some kind) q e =
-    some_is Directive (made which w p kind, rest) q (length rest) e (omega arith)
+    some_is Directive (directive_of which w p kind, rest) q (length rest) e (omega arith)
 
 converted_within : (which : Index) (w p : Option Request) (text : List ℕ)
-    → Within Directive text (converted which w p text)
+    → Within Directive text (conversion_at which w p text)
 converted_within which w p [] q e = absurd (cc e)
 converted_within which w p (b ∷ more) q e = omega (arith, made_within which w p more (asked_by b) q e)
 
@@ -117,10 +118,10 @@ back_within which text q e =
     )
 
 asking_within : (text : List ℕ) (plain : Option (List ℕ)) → Shrinks text plain
-    → Within Directive text (asking text plain)
+    → Within Directive text (unless_percent text plain)
 asking_within text None h q e = omega (arith, index_within text, back_within (index text).0 (index text).1 q e)
 asking_within text (Some rest) h q e =
-    some_is Directive (printed None None None, rest) q (length text) e (h rest refl)
+    some_is Directive (printing_directive None None None, rest) q (length text) e (h rest refl)
 
 pub directive_within : (text : List ℕ) → Within Directive text (directive text)
 directive_within text = asking_within text (behind_percent text) (percent_within text)

@@ -13,13 +13,14 @@ use Rattle.numbered_arguments.specs.declared.Request.{Request}
 use Rattle.script_formats.specs.declared.directive.Directive.{Directive}
 use Rattle.script_formats.specs.declared.perl.Front.{Front}
 use Rattle.script_formats.specs.ScriptParts.{argument, is_flag}
-use Rattle.script_formats.specs.PerlDirectives.{star_mark, dot, zero_digit, letter_v, is_first_digit, written, place_of}
-use Rattle.script_formats.specs.PerlDirectives.{place, separator, joined_by, joined, vector, star, amount_of}
-use Rattle.script_formats.specs.PerlDirectives.{amount, width, precision, long, size, asked_by, front_of, front, made}
-use Rattle.script_formats.specs.PerlDirectives.{made_if, converted, back, directive}
+use Rattle.script_formats.specs.PerlDirectives.{star_mark, dot, zero_digit, letter_v, is_first_digit}
+use Rattle.script_formats.specs.PerlDirectives.{number_with_dollar, index_from, index_at, separator, joined_by}
+use Rattle.script_formats.specs.PerlDirectives.{behind_star, vector, star, amount_of, amount, width, precision}
+use Rattle.script_formats.specs.PerlDirectives.{behind_long, size, asked_by, front_of, front, directive_of, made_if}
+use Rattle.script_formats.specs.PerlDirectives.{behind_size, back, directive}
 use Rattle.script_formats.proofs.PartLemmas.{Within, some_is, behind_within, number_within}
 
-written_within : (text : List ℕ) → Within ℕ text (written text)
+written_within : (text : List ℕ) → Within ℕ text (number_with_dollar text)
 written_within [] p e = absurd (cc e)
 written_within (b ∷ more) p e = elim (cases_Bool (is_first_digit b)) [
   | inl digit ↦ number_within (b ∷ more) p (rw digit at e)
@@ -27,12 +28,12 @@ written_within (b ∷ more) p e = elim (cases_Bool (is_first_digit b)) [
 ]
 
 place_of_within : (text : List ℕ) (found : Option (ℕ × List ℕ)) → Within ℕ text found
-    → length (place_of text found).1 ≤ length text
+    → length (index_from text found).1 ≤ length text
 place_of_within text None h = omega arith
 place_of_within text (Some x) h = h x refl
 
-place_within : (text : List ℕ) → length (place text).1 ≤ length text
-place_within text = place_of_within text (written text) (written_within text)
+index_within : (text : List ℕ) → length (index_at text).1 ≤ length text
+index_within text = place_of_within text (number_with_dollar text) (written_within text)
 
 separator_within : (number : Option ℕ) (text : List ℕ) → Within (Option Request) text (separator number text)
 separator_within number [] p e = absurd (cc e)
@@ -47,8 +48,8 @@ joined_by_within : (text : List ℕ) (found : Option (ℕ × List ℕ)) → With
 joined_by_within text None h p e = separator_within None text p e
 joined_by_within text (Some x) h p e = omega (arith, h x refl, separator_within (Some x.0) x.1 p e)
 
-joined_within : (text : List ℕ) → Within (Option Request) text (joined text)
-joined_within text = joined_by_within text (written text) (written_within text)
+joined_within : (text : List ℕ) → Within (Option Request) text (behind_star text)
+joined_within text = joined_by_within text (number_with_dollar text) (written_within text)
 
 vector_within : (text : List ℕ) → Within (Option Request) text (vector text)
 vector_within [] p e = absurd (cc e)
@@ -63,8 +64,8 @@ vector_within (b ∷ more) p e = elim (cases_Bool (b == letter_v)) [
 star_within : (text : List ℕ) → Within (Option Request) text (star text)
 star_within [] p e = absurd (cc e)
 star_within (b ∷ more) p e = elim (cases_Bool (b == star_mark)) [
-  | inl is ↦ some_is (Option Request) (argument (place more).0 (Some (Integer Plain)), (place more).1) p
-      (length (b ∷ more)) (rw is at e) (omega (arith, place_within more))
+  | inl is ↦ some_is (Option Request) (argument (index_at more).0 (Some (Integer Plain)), (index_at more).1) p
+      (length (b ∷ more)) (rw is at e) (omega (arith, index_within more))
   | inr other ↦ absurd (cc (rw other at e))
 ]
 
@@ -90,7 +91,7 @@ precision_within (b ∷ more) = elim (cases_Bool (b == dot)) [
   | inr e ↦ rw e (omega arith)
 ]
 
-long_within : (text : List ℕ) → length (long text).1 ≤ length text
+long_within : (text : List ℕ) → length (behind_long text).1 ≤ length text
 long_within [] = omega arith
 long_within (b ∷ more) = elim (cases_Bool (b == 108)) [
   | inl e ↦ rw e (omega arith)
@@ -117,10 +118,10 @@ made_within : (before : Front) (w p : Option Request) (rest : List ℕ) (kind : 
     → Within Directive rest (made_if before w p rest kind)
 made_within before w p rest None q e = absurd (cc e)
 made_within before w p rest (Some kind) q e =
-    some_is Directive (made before w p kind, rest) q (length rest) e (omega arith)
+    some_is Directive (directive_of before w p kind, rest) q (length rest) e (omega arith)
 
 converted_within : (before : Front) (w p : Option Request) (s : Size) (text : List ℕ)
-    → Within Directive text (converted before w p s text)
+    → Within Directive text (behind_size before w p s text)
 converted_within before w p s [] q e = absurd (cc e)
 converted_within before w p s (b ∷ more) q e = omega (arith, made_within before w p more (asked_by b s) q e)
 
@@ -142,10 +143,10 @@ front_of_within number text (Some x) h = h x refl
 front_within : (text : List ℕ) → length (front text).1 ≤ length text
 front_within text = omega (
   arith,
-  place_within text,
-  behind_within is_flag (place text).1,
-  front_of_within (place text).0 (behind is_flag (place text).1) (vector (behind is_flag (place text).1))
-      (vector_within (behind is_flag (place text).1)),
+  index_within text,
+  behind_within is_flag (index_at text).1,
+  front_of_within (index_at text).0 (behind is_flag (index_at text).1) (vector (behind is_flag (index_at text).1))
+      (vector_within (behind is_flag (index_at text).1)),
 )
 
 pub directive_within : (text : List ℕ) → Within Directive text (directive text)

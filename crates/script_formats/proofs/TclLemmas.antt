@@ -6,10 +6,11 @@ use Rattle.numbered_arguments.specs.declared.Kind.{Kind}
 use Rattle.numbered_arguments.specs.declared.Size.{Size}
 use Rattle.numbered_arguments.specs.declared.Request.{Request}
 use Rattle.script_formats.specs.declared.directive.Directive.{Directive}
-use Rattle.script_formats.specs.ScriptParts.{argument, printed, behind_percent, place, is_flag, amount}
-use Rattle.script_formats.specs.TclDirectives.{next_place, precision, size, asked_by, made_if, converted}
-use Rattle.script_formats.specs.TclDirectives.{behind_amounts, behind_width, behind_flags, placed, asking, directive}
-use Rattle.script_formats.proofs.PartLemmas.{Within, some_is, behind_within, place_within, amount_within}
+use Rattle.script_formats.specs.ScriptParts.{argument, printing_directive, behind_percent, index_at, is_flag, amount}
+use Rattle.script_formats.specs.TclDirectives.{next_place, precision, size, asked_by, made_if, behind_size}
+use Rattle.script_formats.specs.TclDirectives.{behind_amounts, behind_width, behind_flags, with_number, unless_percent}
+use Rattle.script_formats.specs.TclDirectives.{directive}
+use Rattle.script_formats.proofs.PartLemmas.{Within, some_is, behind_within, index_within, amount_within}
 use Rattle.script_formats.proofs.PartLemmas.{percent_within}
 
 precision_within : (number : Option ℕ) (text : List ℕ) → length (precision number text).1 ≤ length text
@@ -33,10 +34,10 @@ made_within : (number : Option ℕ) (w p : Option Request) (rest : List ℕ) (ki
     → Within Directive rest (made_if number w p rest kind)
 made_within number w p rest None q e = absurd (cc e)
 made_within number w p rest (Some kind) q e =
-    some_is Directive (printed w p (argument number (Some kind)), rest) q (length rest) e (omega arith)
+    some_is Directive (printing_directive w p (argument number (Some kind)), rest) q (length rest) e (omega arith)
 
 converted_within : (number : Option ℕ) (w p : Option Request) (s : Size) (text : List ℕ)
-    → Within Directive text (converted number w p s text)
+    → Within Directive text (behind_size number w p s text)
 converted_within number w p s [] q e = absurd (cc e)
 converted_within number w p s (b ∷ more) q e = omega (arith, made_within number w p more (asked_by b s) q e)
 
@@ -62,17 +63,17 @@ flags_within number text q e = omega (
 )
 
 placed_within : (text : List ℕ) (found : Option (Option ℕ × List ℕ)) → Within (Option ℕ) text found
-    → Within Directive text (placed found)
+    → Within Directive text (with_number found)
 placed_within text None h q e = absurd (cc e)
 placed_within text (Some x) h q e =
     omega (arith, h x refl, behind_within is_flag x.1, flags_within x.0 (behind is_flag x.1) q e)
 
 asking_within : (text : List ℕ) (plain : Option (List ℕ))
     → ((rest : List ℕ) → plain ≡ Some rest → length rest ≤ length text)
-    → Within Directive text (asking text plain)
-asking_within text None h q e = placed_within text (place text) (place_within text) q e
+    → Within Directive text (unless_percent text plain)
+asking_within text None h q e = placed_within text (index_at text) (index_within text) q e
 asking_within text (Some rest) h q e =
-    some_is Directive (printed None None None, rest) q (length text) e (h rest refl)
+    some_is Directive (printing_directive None None None, rest) q (length text) e (h rest refl)
 
 pub directive_within : (text : List ℕ) → Within Directive text (directive text)
 directive_within text = asking_within text (behind_percent text) (percent_within text)

@@ -9,7 +9,7 @@ use Rattle.numbered_arguments.specs.declared.Kind.TheVariants.{Character, Text, 
 use Rattle.numbered_arguments.specs.declared.Size.TheVariants.{Plain}
 use Rattle.numbered_arguments.specs.declared.Request.{Request}
 use Rattle.script_formats.specs.declared.directive.Directive.{Directive}
-use Rattle.script_formats.specs.ScriptParts.{argument, printed, place, is_flag}
+use Rattle.script_formats.specs.ScriptParts.{argument, printing_directive, index_at, is_flag}
 
 -- ---- "minimum width" and "precision"
 
@@ -20,7 +20,7 @@ star_of (Some found) = Some (argument found.0 (Some (Integer Plain)), found.1)
 -- `*`, `*m$` or digits, or nothing; None: m is 0
 abbrev pub amount : List ℕ → Option (Option Request × List ℕ)
 amount [] = Some (None, [])
-amount (b ∷ more) = if b == 42 then star_of (place more) else Some (None, behind is_ascii_digit (b ∷ more))
+amount (b ∷ more) = if b == 42 then star_of (index_at more) else Some (None, behind is_ascii_digit (b ∷ more))
 
 abbrev pub precision : List ℕ → Option (Option Request × List ℕ)
 precision [] = Some (None, [])
@@ -44,25 +44,25 @@ asked_by conversion =
 abbrev pub made_if : Option ℕ → Option Request → Option Request → List ℕ → Option (Option Kind)
     → Option (Directive × List ℕ)
 made_if number width precision rest None = None
-made_if number width precision rest (Some kind) = Some (printed width precision (argument number kind), rest)
+made_if number width precision rest (Some kind) = Some (printing_directive width precision (argument number kind), rest)
 
-abbrev pub converted : Option ℕ → Option Request → Option Request → List ℕ → Option (Directive × List ℕ)
-converted number width precision [] = None
-converted number width precision (b ∷ more) = made_if number width precision more (asked_by b)
+abbrev pub conversion_at : Option ℕ → Option Request → Option Request → List ℕ → Option (Directive × List ℕ)
+conversion_at number width precision [] = None
+conversion_at number width precision (b ∷ more) = made_if number width precision more (asked_by b)
 
 abbrev pub behind_precision : Option ℕ → Option Request → Option (Option Request × List ℕ)
     → Option (Directive × List ℕ)
 behind_precision number width None = None
-behind_precision number width (Some found) = converted number width found.0 found.1
+behind_precision number width (Some found) = conversion_at number width found.0 found.1
 
 abbrev pub behind_width : Option ℕ → Option (Option Request × List ℕ) → Option (Directive × List ℕ)
 behind_width number None = None
 behind_width number (Some found) = behind_precision number found.0 (precision found.1)
 
-abbrev pub placed : Option (Option ℕ × List ℕ) → Option (Directive × List ℕ)
-placed None = None
-placed (Some found) = behind_width found.0 (amount (behind is_flag found.1))
+abbrev pub with_number : Option (Option ℕ × List ℕ) → Option (Directive × List ℕ)
+with_number None = None
+with_number (Some found) = behind_width found.0 (amount (behind is_flag found.1))
 
 -- what the directive asks for, and what follows
 abbrev pub directive : List ℕ → Option (Directive × List ℕ)
-directive text = placed (place text)
+directive text = with_number (index_at text)

@@ -1,5 +1,7 @@
 -- Directives of Boost's `format`, from behind the `%` (GNU gettext manual, "Boost Format Strings"; Boost's
 -- documentation of its library Format, "Syntax").
+pub use Rattle.format_arguments.specs.Bytes.{is_first_digit}
+pub use Rattle.byte_text.specs.Characters.{bar}
 use Rattle.std.specs.Prelude.{ℕ, Bool, true, false, not, ◌&&◌, ◌==◌, if◌then◌else◌, List, [], ◌∷◌, Option, None, Some}
 use Rattle.std.specs.Prelude.{codes}
 use Rattle.std.specs.List.{list_any}
@@ -12,12 +14,9 @@ use Rattle.numbered_arguments.specs.declared.Request.{Request}
 use Rattle.numbered_arguments.specs.NumberedArguments.{number_of}
 use Rattle.script_formats.specs.declared.directive.Directive.{Directive}
 use Rattle.script_formats.specs.declared.boost.Start.{Start}
-use Rattle.script_formats.specs.declared.boost.Start.TheVariants.{Whole, Place}
-use Rattle.script_formats.specs.ScriptParts.{argument, printed, behind_percent}
+use Rattle.script_formats.specs.declared.boost.Start.TheVariants.{Whole, Number}
+use Rattle.script_formats.specs.ScriptParts.{argument, printing_directive, behind_percent}
 use Rattle.script_formats.specs.AwkDirectives.{amount, precision}
-
-abbrev pub bar : ℕ
-bar = 124
 
 -- what follows a bar
 abbrev pub behind_bar : List ℕ → Option (List ℕ)
@@ -26,23 +25,21 @@ behind_bar (b ∷ more) = if b == bar then Some more else None
 
 -- ---- "N" of `%N%` and `%N$`
 
-abbrev pub is_first_digit : ℕ → Bool
-is_first_digit b = is_ascii_digit b && not (b == 48)
-
 -- behind a number: a `$`, or a `%` that ends the directive, which there isn't behind a bar
-abbrev pub ended : Bool → List ℕ → ℕ → List ℕ → Option (Start × List ℕ)
-ended barred text number [] = Some (Place None, text)
-ended barred text number (b ∷ more) =
-    if b == 36 then (if number == 0 then None else Some (Place (Some number), more))
+abbrev pub behind_digits : Bool → List ℕ → ℕ → List ℕ → Option (Start × List ℕ)
+behind_digits barred text number [] = Some (Number None, text)
+behind_digits barred text number (b ∷ more) =
+    if b == 36 then (if number == 0 then None else Some (Number (Some number), more))
     else if b == 37 && not barred then (if number == 0 then None else Some (Whole number, more))
-    else Some (Place None, text)
+    else Some (Number None, text)
 
 -- a number, whose first digit isn't 0, with its `$` or `%`, or nothing; None: the number is 0
 abbrev pub start : Bool → List ℕ → Option (Start × List ℕ)
-start barred [] = Some (Place None, [])
+start barred [] = Some (Number None, [])
 start barred (b ∷ more) = if is_first_digit b
-    then ended barred (b ∷ more) (number_of (run is_ascii_digit (b ∷ more))) (behind is_ascii_digit (b ∷ more))
-    else Some (Place None, b ∷ more)
+    then behind_digits barred (b ∷ more) (number_of (run is_ascii_digit (b ∷ more)))
+    (behind is_ascii_digit (b ∷ more))
+    else Some (Number None, b ∷ more)
 
 -- ---- "flags" and what is read as a size
 
@@ -70,38 +67,41 @@ with_rest rest None = None
 with_rest rest (Some kind) = Some (kind, rest)
 
 -- any byte, behind a `T`
-abbrev pub filled : List ℕ → Option (Option Kind × List ℕ)
-filled [] = None
-filled (b ∷ more) = Some (None, more)
+abbrev pub behind_fill : List ℕ → Option (Option Kind × List ℕ)
+behind_fill [] = None
+behind_fill (b ∷ more) = Some (None, more)
 
 -- a conversion, and what follows
-abbrev pub unbarred : List ℕ → Option (Option Kind × List ℕ)
-unbarred [] = None
-unbarred (b ∷ more) = if b == 84 then filled more else with_rest more (asked_by b)
+abbrev pub conversion_behind : List ℕ → Option (Option Kind × List ℕ)
+conversion_behind [] = None
+conversion_behind (b ∷ more) = if b == 84 then behind_fill more else with_rest more (asked_by b)
 
 abbrev pub closed_by : Option Kind → Option (List ℕ) → Option (Option Kind × List ℕ)
 closed_by kind None = None
 closed_by kind (Some rest) = Some (kind, rest)
 
-abbrev pub closed : Option (Option Kind × List ℕ) → Option (Option Kind × List ℕ)
-closed None = None
-closed (Some found) = closed_by found.0 (behind_bar found.1)
+abbrev pub with_bar : Option (Option Kind × List ℕ) → Option (Option Kind × List ℕ)
+with_bar None = None
+with_bar (Some found) = closed_by found.0 (behind_bar found.1)
 
 abbrev pub bar_or : List ℕ → Option (List ℕ) → Option (Option Kind × List ℕ)
-bar_or text None = closed (unbarred text)
+bar_or text None = with_bar (conversion_behind text)
 bar_or text (Some rest) = Some (Some Object, rest)
 
 -- a conversion; behind a bar one with a bar after it, or the bar alone
 abbrev pub conversion : Bool → List ℕ → Option (Option Kind × List ℕ)
 conversion true text = bar_or text (behind_bar text)
-conversion false text = unbarred text
+conversion false text = conversion_behind text
 
 -- ---- directives
 
 abbrev pub made_of : Option ℕ → Option Request → Option Request → Option (Option Kind × List ℕ)
     → Option (Directive × List ℕ)
 made_of number width precision None = None
-made_of number width precision (Some found) = Some (printed width precision (argument number found.0), found.1)
+made_of number width precision (Some found) = Some (
+  printing_directive width precision (argument number found.0),
+  found.1,
+)
 
 abbrev pub behind_precision : Bool → Option ℕ → Option Request → Option (Option Request × List ℕ)
     → Option (Directive × List ℕ)
@@ -117,22 +117,23 @@ behind_width barred number (Some found) = behind_precision barred number found.0
 abbrev pub back : Bool → Option ℕ → List ℕ → Option (Directive × List ℕ)
 back barred number text = behind_width barred number (amount (behind is_flag text))
 
-abbrev pub continued : Bool → Start → List ℕ → Option (Directive × List ℕ)
-continued barred (Whole number) rest = Some (printed None None (argument (Some number) (Some Object)), rest)
-continued barred (Place number) rest = back barred number rest
+abbrev pub behind_start : Bool → Start → List ℕ → Option (Directive × List ℕ)
+behind_start barred (Whole number) rest =
+    Some (printing_directive None None (argument (Some number) (Some Object)), rest)
+behind_start barred (Number number) rest = back barred number rest
 
-abbrev pub started : Bool → Option (Start × List ℕ) → Option (Directive × List ℕ)
-started barred None = None
-started barred (Some found) = continued barred found.0 found.1
+abbrev pub with_start : Bool → Option (Start × List ℕ) → Option (Directive × List ℕ)
+with_start barred None = None
+with_start barred (Some found) = behind_start barred found.0 found.1
 
-abbrev pub barred : List ℕ → Option (List ℕ) → Option (Directive × List ℕ)
-barred text None = started false (start false text)
-barred text (Some rest) = started true (start true rest)
+abbrev pub directive_behind : List ℕ → Option (List ℕ) → Option (Directive × List ℕ)
+directive_behind text None = with_start false (start false text)
+directive_behind text (Some rest) = with_start true (start true rest)
 
-abbrev pub asking : List ℕ → Option (List ℕ) → Option (Directive × List ℕ)
-asking text None = barred text (behind_bar text)
-asking text (Some rest) = Some (printed None None None, rest)
+abbrev pub unless_percent : List ℕ → Option (List ℕ) → Option (Directive × List ℕ)
+unless_percent text None = directive_behind text (behind_bar text)
+unless_percent text (Some rest) = Some (printing_directive None None None, rest)
 
 -- what the directive asks for, and what follows
 abbrev pub directive : List ℕ → Option (Directive × List ℕ)
-directive text = asking text (behind_percent text)
+directive text = unless_percent text (behind_percent text)

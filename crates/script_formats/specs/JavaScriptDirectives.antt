@@ -8,7 +8,7 @@ use Rattle.numbered_arguments.specs.declared.Kind.{Kind}
 use Rattle.numbered_arguments.specs.declared.Kind.TheVariants.{Any, Character, Text, Integer, Float}
 use Rattle.numbered_arguments.specs.declared.Size.TheVariants.{Plain}
 use Rattle.script_formats.specs.declared.directive.Directive.{Directive}
-use Rattle.script_formats.specs.ScriptParts.{argument, printed, place, behind_precision}
+use Rattle.script_formats.specs.ScriptParts.{argument, printing_directive, index_at, behind_precision}
 
 abbrev pub is_flag : ℕ → Bool
 is_flag b = list_any (λ flag. b == flag) (codes "-+ 0I")
@@ -26,15 +26,15 @@ asked_by conversion =
 
 abbrev pub made_if : Option ℕ → List ℕ → Option (Option Kind) → Option (Directive × List ℕ)
 made_if number rest None = None
-made_if number rest (Some kind) = Some (printed None None (argument number kind), rest)
+made_if number rest (Some kind) = Some (printing_directive None None (argument number kind), rest)
 
-abbrev pub converted : Option ℕ → List ℕ → Option (Directive × List ℕ)
-converted number [] = None
-converted number (b ∷ more) = made_if number more (asked_by b)
+abbrev pub behind_number : Option ℕ → List ℕ → Option (Directive × List ℕ)
+behind_number number [] = None
+behind_number number (b ∷ more) = made_if number more (asked_by b)
 
 -- flags, a width, a precision and a conversion
 abbrev pub back : Option ℕ → List ℕ → Option (Directive × List ℕ)
-back number text = converted number (behind_precision (behind is_ascii_digit (behind is_flag text)))
+back number text = behind_number number (behind_precision (behind is_ascii_digit (behind is_flag text)))
 
 abbrev pub back_of : Option (Option ℕ × List ℕ) → Option (Directive × List ℕ)
 back_of None = None
@@ -42,4 +42,4 @@ back_of (Some found) = back found.0 found.1
 
 -- what the directive asks for, and what follows
 abbrev pub directive : List ℕ → Option (Directive × List ℕ)
-directive text = back_of (place text)
+directive text = back_of (index_at text)

@@ -8,7 +8,7 @@ use Rattle.numbered_arguments.specs.declared.Kind.{Kind}
 use Rattle.numbered_arguments.specs.declared.Kind.TheVariants.{Character, Text, Integer, Float, Object}
 use Rattle.numbered_arguments.specs.declared.Size.TheVariants.{Plain}
 use Rattle.script_formats.specs.declared.directive.Directive.{Directive}
-use Rattle.script_formats.specs.ScriptParts.{argument, printed, behind_percent, behind_precision}
+use Rattle.script_formats.specs.ScriptParts.{argument, printing_directive, behind_percent, behind_precision}
 
 -- what a conversion asks for; None: there is no such conversion. `q` takes an object and writes it as Lua's code does
 abbrev pub asked_by : ℕ → Option Kind
@@ -22,17 +22,17 @@ asked_by conversion =
 
 abbrev pub made_if : List ℕ → Option Kind → Option (Directive × List ℕ)
 made_if rest None = None
-made_if rest (Some kind) = Some (printed None None (argument None (Some kind)), rest)
+made_if rest (Some kind) = Some (printing_directive None None (argument None (Some kind)), rest)
 
-abbrev pub converted : List ℕ → Option (Directive × List ℕ)
-converted [] = None
-converted (b ∷ more) = made_if more (asked_by b)
+abbrev pub conversion_at : List ℕ → Option (Directive × List ℕ)
+conversion_at [] = None
+conversion_at (b ∷ more) = made_if more (asked_by b)
 
 -- a width and a precision, which are digits or nothing, and a conversion
-abbrev pub asking : List ℕ → Option (List ℕ) → Option (Directive × List ℕ)
-asking text None = converted (behind_precision (behind is_ascii_digit text))
-asking text (Some rest) = Some (printed None None None, rest)
+abbrev pub unless_percent : List ℕ → Option (List ℕ) → Option (Directive × List ℕ)
+unless_percent text None = conversion_at (behind_precision (behind is_ascii_digit text))
+unless_percent text (Some rest) = Some (printing_directive None None None, rest)
 
 -- what the directive asks for, and what follows
 abbrev pub directive : List ℕ → Option (Directive × List ℕ)
-directive text = asking text (behind_percent text)
+directive text = unless_percent text (behind_percent text)

@@ -12,7 +12,7 @@ use Rattle.numbered_arguments.specs.NumberedArguments.{number_of}
 use Rattle.script_formats.specs.declared.directive.Directive.{Directive}
 use Rattle.script_formats.specs.declared.pascal.Index.{Index}
 use Rattle.script_formats.specs.declared.pascal.Index.TheVariants.{Next, Own, Given}
-use Rattle.script_formats.specs.ScriptParts.{argument, printed, behind_percent, following, amount}
+use Rattle.script_formats.specs.ScriptParts.{argument, printing_directive, behind_percent, following_number, amount}
 
 -- ---- "index"
 
@@ -27,18 +27,18 @@ behind_given (b ∷ more) = if b == 42 then behind_colon more else None
 
 abbrev pub own_of : ℕ → Option (List ℕ) → Option (ℕ × List ℕ)
 own_of index None = None
-own_of index (Some rest) = Some (following index, rest)
+own_of index (Some rest) = Some (following_number index, rest)
 
 -- digits and a colon: the number of the argument, and what follows. Indices count from 0, and no digits are 0
-abbrev pub own : List ℕ → Option (ℕ × List ℕ)
-own text = own_of (number_of (run is_ascii_digit text)) (behind_colon (behind is_ascii_digit text))
+abbrev pub own_index : List ℕ → Option (ℕ × List ℕ)
+own_index text = own_of (number_of (run is_ascii_digit text)) (behind_colon (behind is_ascii_digit text))
 
 abbrev pub own_or_next : List ℕ → Option (ℕ × List ℕ) → Index × List ℕ
 own_or_next text None = (Next, text)
 own_or_next text (Some found) = (Own found.0, found.1)
 
 abbrev pub index_of : List ℕ → Option (List ℕ) → Index × List ℕ
-index_of text None = own_or_next text (own text)
+index_of text None = own_or_next text (own_index text)
 index_of text (Some rest) = (Given, rest)
 
 -- `*:`, digits and a colon, or nothing
@@ -71,10 +71,10 @@ asked_by conversion =
 -- ---- directives
 
 -- with an index that an argument gives, that argument is asked for, and nothing is known of the conversion's
-abbrev pub made : Index → Option Request → Option Request → Kind → Directive
-made Next width precision kind = printed width precision (argument None (Some kind))
-made (Own number) width precision kind = printed width precision (argument (Some number) (Some kind))
-made Given width precision kind = record {
+abbrev pub directive_of : Index → Option Request → Option Request → Kind → Directive
+directive_of Next width precision kind = printing_directive width precision (argument None (Some kind))
+directive_of (Own number) width precision kind = printing_directive width precision (argument (Some number) (Some kind))
+directive_of Given width precision kind = record {
   index = argument None (Some (Integer Plain));
   separator = None;
   vector = None;
@@ -85,15 +85,15 @@ made Given width precision kind = record {
 
 abbrev pub made_if : Index → Option Request → Option Request → List ℕ → Option Kind → Option (Directive × List ℕ)
 made_if index width precision rest None = None
-made_if index width precision rest (Some kind) = Some (made index width precision kind, rest)
+made_if index width precision rest (Some kind) = Some (directive_of index width precision kind, rest)
 
-abbrev pub converted : Index → Option Request → Option Request → List ℕ → Option (Directive × List ℕ)
-converted index width precision [] = None
-converted index width precision (b ∷ more) = made_if index width precision more (asked_by b)
+abbrev pub conversion_at : Index → Option Request → Option Request → List ℕ → Option (Directive × List ℕ)
+conversion_at index width precision [] = None
+conversion_at index width precision (b ∷ more) = made_if index width precision more (asked_by b)
 
 abbrev pub behind_precision : Index → Option Request → Option (Option Request × List ℕ) → Option (Directive × List ℕ)
 behind_precision index width None = None
-behind_precision index width (Some found) = converted index width found.0 found.1
+behind_precision index width (Some found) = conversion_at index width found.0 found.1
 
 abbrev pub is_minus : ℕ → Bool
 is_minus b = b == 45
@@ -103,10 +103,10 @@ abbrev pub back : Index → List ℕ → Option (Directive × List ℕ)
 back index text = behind_precision index (amount None (behind_one is_minus text)).0
     (precision (amount None (behind_one is_minus text)).1)
 
-abbrev pub asking : List ℕ → Option (List ℕ) → Option (Directive × List ℕ)
-asking text None = back (index text).0 (index text).1
-asking text (Some rest) = Some (printed None None None, rest)
+abbrev pub unless_percent : List ℕ → Option (List ℕ) → Option (Directive × List ℕ)
+unless_percent text None = back (index text).0 (index text).1
+unless_percent text (Some rest) = Some (printing_directive None None None, rest)
 
 -- what the directive asks for, and what follows
 abbrev pub directive : List ℕ → Option (Directive × List ℕ)
-directive text = asking text (behind_percent text)
+directive text = unless_percent text (behind_percent text)

@@ -1,6 +1,7 @@
 -- Directives of Perl's `sprintf`, from behind the `%` (GNU gettext manual, "Perl Format Strings"; perlfunc, "sprintf").
-use Rattle.std.specs.Prelude.{ℕ, Bool, true, false, not, ◌&&◌, ◌==◌, if◌then◌else◌, List, [], ◌∷◌, Option, None, Some}
-use Rattle.std.specs.Prelude.{codes}
+pub use Rattle.format_arguments.specs.Bytes.{is_first_digit}
+pub use Rattle.byte_text.specs.Characters.{dot}
+use Rattle.std.specs.Prelude.{ℕ, true, false, ◌==◌, if◌then◌else◌, List, [], ◌∷◌, Option, None, Some, codes}
 use Rattle.std.specs.List.{list_any}
 use Rattle.std.specs.Char.{is_ascii_digit}
 use Rattle.format_arguments.specs.Bytes.{behind}
@@ -17,9 +18,6 @@ use Rattle.script_formats.specs.ScriptParts.{argument, number_at, is_flag}
 abbrev pub star_mark : ℕ
 star_mark = 42
 
-abbrev pub dot : ℕ
-dot = 46
-
 abbrev pub zero_digit : ℕ
 zero_digit = 48
 
@@ -28,25 +26,22 @@ letter_v = 118
 
 -- ---- "format parameter index"
 
-abbrev pub is_first_digit : ℕ → Bool
-is_first_digit b = is_ascii_digit b && not (b == zero_digit)
-
 -- digits, of which the first isn't 0, and a `$`
-abbrev pub written : List ℕ → Option (ℕ × List ℕ)
-written [] = None
-written (b ∷ more) = if is_first_digit b then number_at (b ∷ more) else None
+abbrev pub number_with_dollar : List ℕ → Option (ℕ × List ℕ)
+number_with_dollar [] = None
+number_with_dollar (b ∷ more) = if is_first_digit b then number_at (b ∷ more) else None
 
 -- a number that is 0, since GNU gettext counts modulo 2^32, is none
-abbrev pub own : ℕ → Option ℕ
-own number = if number == 0 then None else Some number
+abbrev pub own_number : ℕ → Option ℕ
+own_number number = if number == 0 then None else Some number
 
-abbrev pub place_of : List ℕ → Option (ℕ × List ℕ) → Option ℕ × List ℕ
-place_of text None = (None, text)
-place_of text (Some found) = (own found.0, found.1)
+abbrev pub index_from : List ℕ → Option (ℕ × List ℕ) → Option ℕ × List ℕ
+index_from text None = (None, text)
+index_from text (Some found) = (own_number found.0, found.1)
 
 -- a number, which may be left out, and what follows it
-abbrev pub place : List ℕ → Option ℕ × List ℕ
-place text = place_of text (written text)
+abbrev pub index_at : List ℕ → Option ℕ × List ℕ
+index_at text = index_from text (number_with_dollar text)
 
 -- ---- "vector flag": what stands between the numbers, if it is asked for, and what follows
 
@@ -60,13 +55,13 @@ joined_by text None = separator None text
 joined_by text (Some found) = separator (Some found.0) found.1
 
 -- behind a `*`
-abbrev pub joined : List ℕ → Option (Option Request × List ℕ)
-joined text = joined_by text (written text)
+abbrev pub behind_star : List ℕ → Option (Option Request × List ℕ)
+behind_star text = joined_by text (number_with_dollar text)
 
 -- `v`, `*v` or `*m$v`
 abbrev pub vector : List ℕ → Option (Option Request × List ℕ)
 vector [] = None
-vector (b ∷ more) = if b == letter_v then Some (None, more) else if b == star_mark then joined more else None
+vector (b ∷ more) = if b == letter_v then Some (None, more) else if b == star_mark then behind_star more else None
 
 -- ---- "minimum width" and "precision"
 
@@ -74,7 +69,7 @@ vector (b ∷ more) = if b == letter_v then Some (None, more) else if b == star_
 abbrev pub star : List ℕ → Option (Option Request × List ℕ)
 star [] = None
 star (b ∷ more) =
-    if b == star_mark then Some (argument (place more).0 (Some (Integer Plain)), (place more).1) else None
+    if b == star_mark then Some (argument (index_at more).0 (Some (Integer Plain)), (index_at more).1) else None
 
 abbrev pub amount_of : List ℕ → Option (Option Request × List ℕ) → Option Request × List ℕ
 amount_of text None = (None, behind is_ascii_digit text)
@@ -96,15 +91,15 @@ precision (b ∷ more) = if b == dot then amount more else (None, b ∷ more)
 -- ---- "size"
 
 -- behind an `l`
-abbrev pub long : List ℕ → Size × List ℕ
-long [] = (Long, [])
-long (b ∷ more) = if b == 108 then (LongLong, more) else (Long, b ∷ more)
+abbrev pub behind_long : List ℕ → Size × List ℕ
+behind_long [] = (Long, [])
+behind_long (b ∷ more) = if b == 108 then (LongLong, more) else (Long, b ∷ more)
 
 -- `h`, `l`, `ll`, `L`, `q` or `V`, or nothing
 abbrev pub size : List ℕ → Size × List ℕ
 size [] = (Plain, [])
 size (b ∷ more) =
-    if b == 104 then (Short, more) else if b == 108 then long more
+    if b == 104 then (Short, more) else if b == 108 then behind_long more
     else if list_any (λ letter. b == letter) (codes "Lq") then (LongLong, more)
     else if b == 86 then (Native, more) else (Plain, b ∷ more)
 
@@ -140,11 +135,11 @@ front_of number text (Some found) = (record { number = number; is_vector = true;
 
 -- a number, flags and a vector flag
 abbrev pub front : List ℕ → Front × List ℕ
-front text = front_of (place text).0 (behind is_flag (place text).1) (vector (behind is_flag (place text).1))
+front text = front_of (index_at text).0 (behind is_flag (index_at text).1) (vector (behind is_flag (index_at text).1))
 
 -- with a vector flag the argument is a vector, and comes before the width
-abbrev pub made : Front → Option Request → Option Request → Option Kind → Directive
-made front width precision kind = record {
+abbrev pub directive_of : Front → Option Request → Option Request → Option Kind → Directive
+directive_of front width precision kind = record {
   index = None;
   separator = front.separator;
   vector = argument front.number (if front.is_vector then Some Vector else None);
@@ -156,15 +151,15 @@ made front width precision kind = record {
 abbrev pub made_if : Front → Option Request → Option Request → List ℕ → Option (Option Kind)
     → Option (Directive × List ℕ)
 made_if front width precision rest None = None
-made_if front width precision rest (Some kind) = Some (made front width precision kind, rest)
+made_if front width precision rest (Some kind) = Some (directive_of front width precision kind, rest)
 
-abbrev pub converted : Front → Option Request → Option Request → Size → List ℕ → Option (Directive × List ℕ)
-converted front width precision size [] = None
-converted front width precision size (b ∷ more) = made_if front width precision more (asked_by b size)
+abbrev pub behind_size : Front → Option Request → Option Request → Size → List ℕ → Option (Directive × List ℕ)
+behind_size front width precision size [] = None
+behind_size front width precision size (b ∷ more) = made_if front width precision more (asked_by b size)
 
 -- a width, a precision, a size and a conversion
 abbrev pub back : Front → List ℕ → Option (Directive × List ℕ)
-back front text = converted front (width text).0 (precision (width text).1).0 (size (precision (width text).1).1).0
+back front text = behind_size front (width text).0 (precision (width text).1).0 (size (precision (width text).1).1).0
     (size (precision (width text).1).1).1
 
 -- what the directive asks for, and what follows

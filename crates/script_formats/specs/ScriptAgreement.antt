@@ -6,10 +6,11 @@ use Rattle.numbered_arguments.specs.declared.Numbered.{Numbered}
 use Rattle.numbered_arguments.specs.NumberedArguments as arguments
 use Rattle.script_formats.specs.declared.Notation.{Notation}
 use Rattle.script_formats.specs.declared.Notation.TheVariants.{Lua, Boost}
-use Rattle.script_formats.specs.ScriptKinds.{settled}
+use Rattle.script_formats.specs.ScriptKinds.{settled_arguments}
 
 -- Lua's are compared strictly always, and Boost's by the types that each says
 abbrev pub agree : Notation → List Numbered → List Numbered → Strictness → Bool
 agree Lua original translation rule = arguments.agree original translation Same
-agree Boost original translation rule = arguments.agree (settled original) (settled translation) rule
+agree Boost original translation rule = arguments.agree (settled_arguments original) (settled_arguments translation)
+    rule
 agree _ original translation rule = arguments.agree original translation rule

@@ -1,4 +1,5 @@
 -- Directives of each language.
+pub use Rattle.byte_text.specs.Characters.{percent}
 use Rattle.std.specs.Prelude.{◌≡◌, ℕ, List, ◌∷◌, Option, Some}
 use Rattle.numbered_arguments.specs.declared.Kind.{Kind}
 use Rattle.numbered_arguments.specs.declared.Request.{Request}
@@ -14,14 +15,11 @@ use Rattle.script_formats.specs.LuaDirectives as lua
 use Rattle.script_formats.specs.PascalDirectives as pascal
 use Rattle.script_formats.specs.BoostDirectives as boost
 
-abbrev pub percent : ℕ
-percent = 37
-
 abbrev pub argument : Option ℕ → Option Kind → Option Request
 argument number kind = parts.argument number kind
 
-abbrev pub printed : Option Request → Option Request → Option Request → Directive
-printed width precision asked = parts.printed width precision asked
+abbrev pub printing_directive : Option Request → Option Request → Option Request → Directive
+printing_directive width precision asked = parts.printing_directive width precision asked
 
 abbrev pub directive : Notation → List ℕ → Option (Directive × List ℕ)
 directive Perl text = perl.directive text

@@ -4,7 +4,7 @@ use Rattle.std.specs.List.{list_any}
 use Rattle.format_arguments.specs.declared.FormatFault.{FormatFault}
 use Rattle.numbered_arguments.specs.declared.Numbered.{Numbered}
 use Rattle.numbered_arguments.specs.declared.Request.{Request}
-use Rattle.numbered_arguments.specs.NumberedArguments.{numbered}
+use Rattle.numbered_arguments.specs.NumberedArguments.{numbered_requests}
 use Rattle.numbered_arguments.specs.NumberedText.{AsksFor, Refuses}
 use Rattle.script_formats.specs.declared.Notation.{Notation}
 use Rattle.script_formats.specs.ScriptDirectives.{percent, DirectiveAt}
@@ -14,7 +14,7 @@ use Rattle.script_formats.specs.Collecting.{asks, is_own, is_next, allows}
 -- each number has one kind, and arguments with numbers and without go together only where the language lets them
 abbrev pub fits : Notation → List Request → Bool
 fits notation requests =
-    is_consistent_in notation (numbered requests)
+    is_consistent_in notation (numbered_requests requests)
     && allows notation (list_any is_own requests) (list_any is_next requests)
 
 -- the text is a format that asks for these arguments

@@ -1,4 +1,5 @@
 -- The parts of directives that languages share.
+pub use Rattle.byte_text.specs.Characters.{dollar}
 use Rattle.std.specs.Prelude.{ℕ, ◌+◌, ◌^◌, ◌%◌, Bool, ◌==◌, if◌then◌else◌, List, [], ◌∷◌, Option, None, Some, codes}
 use Rattle.std.specs.List.{list_any}
 use Rattle.std.specs.Char.{is_ascii_digit}
@@ -10,9 +11,6 @@ use Rattle.numbered_arguments.specs.declared.Request.{Request}
 use Rattle.numbered_arguments.specs.NumberedArguments.{number_of}
 use Rattle.script_formats.specs.declared.directive.Directive.{Directive}
 
-abbrev pub dollar : ℕ
-dollar = 36
-
 -- ---- what a directive asks for
 
 -- an argument of this kind, if there is one
@@ -21,8 +19,8 @@ argument number None = None
 argument number (Some kind) = Some (record { number = number; kind = kind })
 
 -- a width, a precision and what the conversion asks for
-abbrev pub printed : Option Request → Option Request → Option Request → Directive
-printed width precision asked = record {
+abbrev pub printing_directive : Option Request → Option Request → Option Request → Directive
+printing_directive width precision asked = record {
   index = None;
   separator = None;
   vector = None;
@@ -49,17 +47,17 @@ dollar_at number (b ∷ more) = if b == dollar then Some (number, more) else Non
 abbrev pub number_at : List ℕ → Option (ℕ × List ℕ)
 number_at text = dollar_at (number_of (run is_ascii_digit text)) (behind is_ascii_digit text)
 
-abbrev pub place_of : List ℕ → Option (ℕ × List ℕ) → Option (Option ℕ × List ℕ)
-place_of text None = Some (None, text)
-place_of text (Some found) = if found.0 == 0 then None else Some (Some found.0, found.1)
+abbrev pub index_from : List ℕ → Option (ℕ × List ℕ) → Option (Option ℕ × List ℕ)
+index_from text None = Some (None, text)
+index_from text (Some found) = if found.0 == 0 then None else Some (Some found.0, found.1)
 
 -- a number, which may be left out, and what follows it; None: the number is 0
-abbrev pub place : List ℕ → Option (Option ℕ × List ℕ)
-place text = place_of text (number_at text)
+abbrev pub index_at : List ℕ → Option (Option ℕ × List ℕ)
+index_at text = index_from text (number_at text)
 
 -- the number that follows; GNU gettext counts arguments modulo 2^32
-abbrev pub following : ℕ → ℕ
-following number = (number + 1) % 2 ^ 32
+abbrev pub following_number : ℕ → ℕ
+following_number number = (number + 1) % 2 ^ 32
 
 -- ---- "flags", "width" and "precision"
 

@@ -9,11 +9,12 @@ use Rattle.numbered_arguments.specs.declared.Size.{Size}
 use Rattle.numbered_arguments.specs.declared.Size.TheVariants.{Plain, Short}
 use Rattle.numbered_arguments.specs.declared.Request.{Request}
 use Rattle.script_formats.specs.declared.directive.Directive.{Directive}
-use Rattle.script_formats.specs.ScriptParts.{argument, printed, behind_percent, place, following, is_flag, amount}
+use Rattle.script_formats.specs.ScriptParts.{argument, printing_directive, behind_percent, index_at, following_number}
+use Rattle.script_formats.specs.ScriptParts.{is_flag, amount}
 
 -- a star's argument comes before the directive's own: where the one has a number, the other has the following one
 abbrev pub next_place : Option ℕ → Option Request → Option ℕ
-next_place (Some number) (Some asked) = Some (following number)
+next_place (Some number) (Some asked) = Some (following_number number)
 next_place number asked = number
 
 -- a dot, and a star, digits or nothing behind it; or nothing
@@ -40,15 +41,15 @@ abbrev pub made_if : Option ℕ → Option Request → Option Request → List �
     → Option (Directive × List ℕ)
 made_if number width precision rest None = None
 made_if number width precision rest (Some kind) =
-    Some (printed width precision (argument number (Some kind)), rest)
+    Some (printing_directive width precision (argument number (Some kind)), rest)
 
-abbrev pub converted : Option ℕ → Option Request → Option Request → Size → List ℕ → Option (Directive × List ℕ)
-converted number width precision size [] = None
-converted number width precision size (b ∷ more) = made_if number width precision more (asked_by b size)
+abbrev pub behind_size : Option ℕ → Option Request → Option Request → Size → List ℕ → Option (Directive × List ℕ)
+behind_size number width precision size [] = None
+behind_size number width precision size (b ∷ more) = made_if number width precision more (asked_by b size)
 
 -- behind the precision: a size and a conversion
 abbrev pub behind_amounts : Option ℕ → Option Request → Option Request → List ℕ → Option (Directive × List ℕ)
-behind_amounts number width precision text = converted number width precision (size text).0 (size text).1
+behind_amounts number width precision text = behind_size number width precision (size text).0 (size text).1
 
 -- behind the width
 abbrev pub behind_width : Option ℕ → Option Request → List ℕ → Option (Directive × List ℕ)
@@ -60,14 +61,14 @@ abbrev pub behind_flags : Option ℕ → List ℕ → Option (Directive × List 
 behind_flags number text =
     behind_width (next_place number (amount number text).0) (amount number text).0 (amount number text).1
 
-abbrev pub placed : Option (Option ℕ × List ℕ) → Option (Directive × List ℕ)
-placed None = None
-placed (Some found) = behind_flags found.0 (behind is_flag found.1)
+abbrev pub with_number : Option (Option ℕ × List ℕ) → Option (Directive × List ℕ)
+with_number None = None
+with_number (Some found) = behind_flags found.0 (behind is_flag found.1)
 
-abbrev pub asking : List ℕ → Option (List ℕ) → Option (Directive × List ℕ)
-asking text None = placed (place text)
-asking text (Some rest) = Some (printed None None None, rest)
+abbrev pub unless_percent : List ℕ → Option (List ℕ) → Option (Directive × List ℕ)
+unless_percent text None = with_number (index_at text)
+unless_percent text (Some rest) = Some (printing_directive None None None, rest)
 
 -- what the directive asks for, and what follows
 abbrev pub directive : List ℕ → Option (Directive × List ℕ)
-directive text = asking text (behind_percent text)
+directive text = unless_percent text (behind_percent text)

@@ -16,7 +16,7 @@ fn boost_agrees(
     rule: Strictness,
 ) -> Result<bool, AllocError>
     ensures { IfOk result (λ agree. agree
-        ≡ arguments.agree (kinds.settled original.now) (kinds.settled translation.now) rule) }
+        ≡ arguments.agree (kinds.settled_arguments original.now) (kinds.settled_arguments translation.now) rule) }
 {
     let original = settled(alloc, original)?;
     let translation = settled(alloc, translation)?;

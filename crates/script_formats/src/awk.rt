@@ -4,7 +4,7 @@ ghost use Rattle.std.specs.Prelude.{◌≡◌, option_map};
 ghost use Rattle.script_formats.specs.AwkDirectives as spec;
 
 use crate::directive::{Directive, argument, printed};
-use crate::parts::{read_place, skip_flags};
+use crate::parts::{read_index, skip_flags};
 use byte_text::split_byte;
 use numbered_arguments::{Kind, Request, Size, skip_digits};
 
@@ -13,7 +13,7 @@ pub(crate) fn read_amount(text: &[u8]) -> Option<(Option<Request>, &[u8])>
     ensures { option_map (λ found. (found.0, found.1.now)) result ≡ spec.amount text.now }
 {
     match split_byte(text) {
-        Some((b'*', behind)) => match read_place(behind) {
+        Some((b'*', behind)) => match read_index(behind) {
             Some((number, rest)) => Some((
                 argument(number, Some(Kind::Integer(Size::Plain))),
                 rest,
@@ -52,7 +52,7 @@ fn asked_by(conversion: u8) -> Option<Option<Kind>>
 pub(crate) fn read(text: &[u8]) -> Option<(Directive, &[u8])>
     ensures { option_map (λ found. (found.0, found.1.now)) result ≡ spec.directive text.now }
 {
-    let (number, behind_number) = read_place(text)?;
+    let (number, behind_number) = read_index(text)?;
     let (width, behind_width) = read_amount(skip_flags(behind_number))?;
     let (precision, behind_precision) = read_precision(behind_width)?;
     let (conversion, rest) = split_byte(behind_precision)?;

@@ -17,7 +17,7 @@ pub enum Start {
     /// the directive ends: it takes the argument of this number
     Whole(u32),
     /// the directive goes on, with a number or without
-    Place(Option<u32>),
+    Number(Option<u32>),
 }
 
 /// What follows a bar.
@@ -37,22 +37,23 @@ fn read_end<'a>(
     number: u32,
     behind: &'a [u8],
 ) -> Option<(Start, &'a [u8])>
-    ensures { option_map (λ found. (found.0, found.1.now)) result ≡ spec.ended barred text.now number behind.now }
+    ensures { option_map (λ found. (found.0, found.1.now)) result
+        ≡ spec.behind_digits barred text.now number behind.now }
 {
     match split_byte(behind) {
         Some((b'$', rest)) => if number == 0 {
             None
         } else {
-            Some((Start::Place(Some(number)), rest))
+            Some((Start::Number(Some(number)), rest))
         },
         Some((b'%', rest)) => if barred {
-            Some((Start::Place(None), text))
+            Some((Start::Number(None), text))
         } else if number == 0 {
             None
         } else {
             Some((Start::Whole(number), rest))
         },
-        _ => Some((Start::Place(None), text)),
+        _ => Some((Start::Number(None), text)),
     }
 }
 
@@ -71,9 +72,9 @@ fn read_start(barred: bool, text: &[u8]) -> Option<(Start, &[u8])>
             let (digits, behind) = split_digits(text);
             read_end(barred, text, number_of(digits), behind)
         } else {
-            Some((Start::Place(None), text))
+            Some((Start::Number(None), text))
         },
-        None => Some((Start::Place(None), text)),
+        None => Some((Start::Number(None), text)),
     }
 }
 
@@ -129,7 +130,7 @@ fn asked_by(conversion: u8) -> Option<Option<Kind>>
 
 /// Reads any byte, behind a `T`.
 fn read_fill(text: &[u8]) -> Option<(Option<Kind>, &[u8])>
-    ensures { option_map (λ found. (found.0, found.1.now)) result ≡ spec.filled text.now }
+    ensures { option_map (λ found. (found.0, found.1.now)) result ≡ spec.behind_fill text.now }
 {
     match split_byte(text) {
         Some((_, rest)) => Some((None, rest)),
@@ -139,7 +140,7 @@ fn read_fill(text: &[u8]) -> Option<(Option<Kind>, &[u8])>
 
 /// Reads a conversion, with no bar after it.
 fn read_open(text: &[u8]) -> Option<(Option<Kind>, &[u8])>
-    ensures { option_map (λ found. (found.0, found.1.now)) result ≡ spec.unbarred text.now }
+    ensures { option_map (λ found. (found.0, found.1.now)) result ≡ spec.conversion_behind text.now }
 {
     match split_byte(text) {
         Some((b'T', rest)) => read_fill(rest),
@@ -185,7 +186,8 @@ fn read_back(barred: bool, number: Option<u32>, text: &[u8]) -> Option<(Directiv
 
 /// Reads a directive, from after its `%` or `%|`.
 fn read_started(barred: bool, text: &[u8]) -> Option<(Directive, &[u8])>
-    ensures { option_map (λ found. (found.0, found.1.now)) result ≡ spec.started barred (spec.start barred text.now) }
+    ensures { option_map (λ found. (found.0, found.1.now)) result
+        ≡ spec.with_start barred (spec.start barred text.now) }
 {
     match read_start(barred, text) {
         Some((Start::Whole(number), rest)) => {
@@ -194,7 +196,7 @@ fn read_started(barred: bool, text: &[u8]) -> Option<(Directive, &[u8])>
                 rest,
             ))
         }
-        Some((Start::Place(number), rest)) => read_back(barred, number, rest),
+        Some((Start::Number(number), rest)) => read_back(barred, number, rest),
         None => None,
     }
 }

@@ -36,7 +36,7 @@ pub(crate) fn printed(
     precision: Option<Request>,
     asked: Option<Request>,
 ) -> Directive
-    ensures { result ≡ spec.printed width precision asked }
+    ensures { result ≡ spec.printing_directive width precision asked }
 {
     Directive {
         index: None,

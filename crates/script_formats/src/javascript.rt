@@ -6,7 +6,7 @@ ghost use Rattle.format_arguments.specs.Bytes.{behind};
 ghost use Rattle.script_formats.specs.JavaScriptDirectives as spec;
 
 use crate::directive::{Directive, argument, printed};
-use crate::parts::{read_place, skip_precision};
+use crate::parts::{read_index, skip_precision};
 use byte_text::split_byte;
 use numbered_arguments::{Kind, Size, skip_digits};
 
@@ -54,6 +54,6 @@ fn read_back(number: Option<u32>, text: &[u8]) -> Option<(Directive, &[u8])>
 pub(crate) fn read(text: &[u8]) -> Option<(Directive, &[u8])>
     ensures { option_map (λ found. (found.0, found.1.now)) result ≡ spec.directive text.now }
 {
-    let (number, rest) = read_place(text)?;
+    let (number, rest) = read_index(text)?;
     read_back(number, rest)
 }

@@ -16,7 +16,7 @@ fn is_typed(argument: Numbered) -> bool
 
 /// Those that are of a certain type.
 fn typed(alloc: Global, asked: &[Numbered]) -> Result<Vec<Numbered>, AllocError>
-    ensures { IfOk result (λ found. found.items ≡ spec.typed asked.now) }
+    ensures { IfOk result (λ found. found.items ≡ spec.typed_arguments asked.now) }
 {
     let mut found = Vec::new(alloc);
     'asked: for argument in asked {
@@ -73,7 +73,7 @@ fn all_typed_by(
 
 /// The arguments, each with its type, if a directive says one.
 pub(crate) fn settled(alloc: Global, asked: &[Numbered]) -> Result<Vec<Numbered>, AllocError>
-    ensures { IfOk result (λ found. found.items ≡ spec.settled asked.now) }
+    ensures { IfOk result (λ found. found.items ≡ spec.settled_arguments asked.now) }
 {
     let typed = typed(alloc, asked)?;
     let known = Index::of(alloc, &typed)?;
@@ -81,7 +81,7 @@ pub(crate) fn settled(alloc: Global, asked: &[Numbered]) -> Result<Vec<Numbered>
 }
 
 fn boost_is_consistent(alloc: Global, asked: &[Numbered]) -> Result<bool, AllocError>
-    ensures { IfOk result (λ is. is ≡ is_consistent (spec.typed asked.now)) }
+    ensures { IfOk result (λ is. is ≡ is_consistent (spec.typed_arguments asked.now)) }
 {
     let typed = typed(alloc, asked)?;
     is_consistent(alloc, &typed)

@@ -20,7 +20,7 @@ mod tcl;
 pub use agreement::agrees;
 pub use format::{one_signature, signature};
 pub use numbered_arguments::{FormatFault, Kind, Numbered, Size, Strictness};
-pub use parts::{read_place, skip_precision};
+pub use parts::{read_index, skip_precision};
 
 /// A language of formats.
 #[derive(Clone, Copy, Debug, PartialEq, Eq)]

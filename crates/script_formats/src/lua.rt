@@ -23,7 +23,7 @@ fn asked_by(conversion: u8) -> Option<Kind>
 
 /// Reads what stands behind the precision.
 fn read_conversion(text: &[u8]) -> Option<(Directive, &[u8])>
-    ensures { option_map (λ found. (found.0, found.1.now)) result ≡ spec.converted text.now }
+    ensures { option_map (λ found. (found.0, found.1.now)) result ≡ spec.conversion_at text.now }
 {
     let (conversion, rest) = split_byte(text)?;
     let kind = asked_by(conversion)?;

@@ -31,8 +31,8 @@ pub(crate) fn read_number(text: &[u8]) -> Option<(u32, &[u8])>
 }
 
 /// Reads `m$`, which may be left out: the number, and what follows. None: m is 0, modulo 2^32.
-pub fn read_place(text: &[u8]) -> Option<(Option<u32>, &[u8])>
-    ensures { option_map (λ found. (found.0, found.1.now)) result ≡ spec.place text.now }
+pub fn read_index(text: &[u8]) -> Option<(Option<u32>, &[u8])>
+    ensures { option_map (λ found. (found.0, found.1.now)) result ≡ spec.index_at text.now }
 {
     match read_number(text) {
         Some((0, _)) => None,
@@ -43,7 +43,7 @@ pub fn read_place(text: &[u8]) -> Option<(Option<u32>, &[u8])>
 
 /// The number that follows, modulo 2^32.
 pub(crate) fn following(number: u32) -> u32
-    ensures { result ≡ spec.following number }
+    ensures { result ≡ spec.following_number number }
 {
     number.wrapping_add(1)
 }

@@ -41,7 +41,7 @@ fn after_given(text: &[u8]) -> Option<&[u8]>
 
 /// Reads digits and a colon: the number of the argument, and what follows.
 fn read_own(text: &[u8]) -> Option<(u32, &[u8])>
-    ensures { option_map (λ found. (found.0, found.1.now)) result ≡ spec.own text.now }
+    ensures { option_map (λ found. (found.0, found.1.now)) result ≡ spec.own_index text.now }
 {
     let (digits, behind) = split_digits(text);
     match after_colon(behind) {
@@ -117,7 +117,7 @@ fn directive(
     precision: Option<Request>,
     kind: Kind,
 ) -> Directive
-    ensures { result ≡ spec.made index width precision kind }
+    ensures { result ≡ spec.directive_of index width precision kind }
 {
     match index {
         Index::Next => printed(width, precision, argument(None, Some(kind))),
@@ -140,7 +140,7 @@ fn read_conversion(
     precision: Option<Request>,
     text: &[u8],
 ) -> Option<(Directive, &[u8])>
-    ensures { option_map (λ found. (found.0, found.1.now)) result ≡ spec.converted index width precision text.now }
+    ensures { option_map (λ found. (found.0, found.1.now)) result ≡ spec.conversion_at index width precision text.now }
 {
     let (conversion, rest) = split_byte(text)?;
     let kind = asked_by(conversion)?;

@@ -16,7 +16,7 @@ fn is_first_digit(byte: u8) -> bool
 
 /// Reads `m$`, where m doesn't begin with 0.
 fn read_written(text: &[u8]) -> Option<(u32, &[u8])>
-    ensures { option_map (λ found. (found.0, found.1.now)) result ≡ spec.written text.now }
+    ensures { option_map (λ found. (found.0, found.1.now)) result ≡ spec.number_with_dollar text.now }
 {
     match split_byte(text) {
         Some((first, _)) => if is_first_digit(first) {
@@ -30,15 +30,15 @@ fn read_written(text: &[u8]) -> Option<(u32, &[u8])>
 
 /// The argument of this number; the next one, if it is 0.
 fn own(number: u32) -> Option<u32>
-    ensures { result ≡ spec.own number }
+    ensures { result ≡ spec.own_number number }
 {
     if number == 0 { None } else { Some(number) }
 }
 
 /// Reads a number of its own, which may be left out.
-fn read_place(text: &[u8]) -> (Option<u32>, &[u8])
-    ensures number { result.0 ≡ (spec.place text.now).0 }
-    ensures rest { result.1.now ≡ (spec.place text.now).1 }
+fn read_index(text: &[u8]) -> (Option<u32>, &[u8])
+    ensures number { result.0 ≡ (spec.index_at text.now).0 }
+    ensures rest { result.1.now ≡ (spec.index_at text.now).1 }
 {
     match read_written(text) {
         Some((number, rest)) => (own(number), rest),
@@ -58,7 +58,7 @@ fn read_separator(number: Option<u32>, text: &[u8]) -> Option<(Option<Request>, 
 
 /// Reads `v` or `m$v`, behind a `*`.
 fn read_joined(text: &[u8]) -> Option<(Option<Request>, &[u8])>
-    ensures { option_map (λ found. (found.0, found.1.now)) result ≡ spec.joined text.now }
+    ensures { option_map (λ found. (found.0, found.1.now)) result ≡ spec.behind_star text.now }
 {
     match read_written(text) {
         Some((number, rest)) => read_separator(Some(number), rest),
@@ -83,7 +83,7 @@ fn read_star(text: &[u8]) -> Option<(Option<Request>, &[u8])>
 {
     match split_byte(text) {
         Some((b'*', behind)) => {
-            let (number, rest) = read_place(behind);
+            let (number, rest) = read_index(behind);
             Some((argument(number, Some(Kind::Integer(Size::Plain))), rest))
         }
         _ => None,
@@ -123,8 +123,8 @@ fn read_precision(text: &[u8]) -> (Option<Request>, &[u8])
 
 /// Reads a second `l`, behind the first.
 fn read_long(text: &[u8]) -> (Size, &[u8])
-    ensures size { result.0 ≡ (spec.long text.now).0 }
-    ensures rest { result.1.now ≡ (spec.long text.now).1 }
+    ensures size { result.0 ≡ (spec.behind_long text.now).0 }
+    ensures rest { result.1.now ≡ (spec.behind_long text.now).1 }
 {
     match split_byte(text) {
         Some((b'l', rest)) => (Size::LongLong, rest),
@@ -188,7 +188,7 @@ fn read_front(text: &[u8]) -> (Front, &[u8])
     ensures front { result.0 ≡ (spec.front text.now).0 }
     ensures rest { result.1.now ≡ (spec.front text.now).1 }
 {
-    let (number, behind_number) = read_place(text);
+    let (number, behind_number) = read_index(text);
     let behind_flags = skip_flags(behind_number);
     match read_vector(behind_flags) {
         Some((separator, rest)) => (
@@ -217,7 +217,7 @@ fn directive(
     precision: Option<Request>,
     kind: Option<Kind>,
 ) -> Directive
-    ensures { result ≡ spec.made front width precision kind }
+    ensures { result ≡ spec.directive_of front width precision kind }
 {
     let (vector, scalar) = if front.is_vector {
         (Some(Kind::Vector), None)

@@ -4,7 +4,7 @@ ghost use Rattle.std.specs.Prelude.{◌≡◌, option_map};
 ghost use Rattle.script_formats.specs.TclDirectives as spec;
 
 use crate::directive::{Directive, argument, printed};
-use crate::parts::{after_percent, following, read_amount, read_place, skip_flags};
+use crate::parts::{after_percent, following, read_amount, read_index, skip_flags};
 use byte_text::split_byte;
 use numbered_arguments::{Kind, Request, Size};
 
@@ -89,6 +89,6 @@ pub(crate) fn read(text: &[u8]) -> Option<(Directive, &[u8])>
     if let Some(rest) = after_percent(text) {
         return Some((printed(None, None, None), rest));
     }
-    let (number, rest) = read_place(text)?;
+    let (number, rest) = read_index(text)?;
     read_back(number, skip_flags(rest))
 }

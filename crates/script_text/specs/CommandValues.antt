@@ -23,6 +23,6 @@ command_with (Asks worker query) text = Some (Ask worker query)
 command_with Goes text = Some Go
 
 -- as a list
-abbrev pub listed : Option Command → List Command
-listed (Some command) = command ∷ []
-listed None = []
+abbrev pub command_list : Option Command → List Command
+command_list (Some command) = command ∷ []
+command_list None = []

@@ -4,7 +4,8 @@ use Rattle.std.specs.Str.{bytes_eq}
 use Rattle.catalogue.specs.declared.Options.{Options}
 use Rattle.live_set.specs.Asks.{AskValue, QueryValue, Plain, Context, Number, ContextNumber}
 use Rattle.script_text.specs.LineFields.{fields}
-use Rattle.script_text.specs.ScriptFields.{number, unescaped, options_of, hex_bytes, worker_of, worker_count, ◌>>=◌}
+use Rattle.script_text.specs.ScriptFields.{number, unescaped_text, options_of, hex_bytes, worker_of, worker_count}
+use Rattle.script_text.specs.ScriptFields.{◌>>=◌}
 
 -- an empty line or a comment; a load of the next `count` lines; a load of an MO file with these bytes; a question to a
 -- worker; the end of a round
@@ -18,23 +19,23 @@ pub data Line : Type 0 where
 -- the texts of a call of gettext: its msgid
 abbrev pub plain_call : List (List ℕ) → Option AskValue
 plain_call (id ∷ []) = do
-  i ← unescaped id
+  i ← unescaped_text id
   Some (Plain i)
 plain_call _ = None
 
 -- of pgettext: a context and a msgid
 abbrev pub context_call : List (List ℕ) → Option AskValue
 context_call (context ∷ id ∷ []) = do
-  c ← unescaped context
-  i ← unescaped id
+  c ← unescaped_text context
+  i ← unescaped_text id
   Some (Context c i)
 context_call _ = None
 
 -- of ngettext: a msgid, a plural and a number
 abbrev pub number_call : List (List ℕ) → Option AskValue
 number_call (id ∷ plural ∷ count ∷ []) = do
-  i ← unescaped id
-  p ← unescaped plural
+  i ← unescaped_text id
+  p ← unescaped_text plural
   n ← number count
   Some (Number i p n)
 number_call _ = None
@@ -42,9 +43,9 @@ number_call _ = None
 -- of npgettext: a context, a msgid, a plural and a number
 abbrev pub context_number_call : List (List ℕ) → Option AskValue
 context_number_call (context ∷ id ∷ plural ∷ count ∷ []) = do
-  c ← unescaped context
-  i ← unescaped id
-  p ← unescaped plural
+  c ← unescaped_text context
+  i ← unescaped_text id
+  p ← unescaped_text plural
   n ← number count
   Some (ContextNumber c i p n)
 context_number_call _ = None

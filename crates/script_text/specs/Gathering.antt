@@ -5,10 +5,9 @@ use Rattle.std.specs.List.{flat_map}
 use Rattle.std.specs.Str.{IsUtf8}
 use Rattle.devices.specs.Lines.{lines}
 use Rattle.script_text.specs.Commands.{Line}
-use Rattle.script_text.specs.CommandValues.{listed}
-use Rattle.script_text.specs.Script.{Command, Load, Ask, Go, RoundValue, round_of, rounds_of, Says, saying}
-use Rattle.script_text.specs.Script.{commands_from}
-use Rattle.script_text.specs.Script.{load_count, ScriptValue, script_from, script_of, script}
+use Rattle.script_text.specs.CommandValues.{command_list}
+use Rattle.script_text.specs.Script.{Command, Load, Ask, Go, RoundValue, round_of, rounds_of, Says, saying_of}
+use Rattle.script_text.specs.Script.{commands_from, load_count, ScriptValue, script_from, script_of, script}
 use Rattle.script_text.specs.Texts.{most_script}
 
 -- the rounds that have ended, the open one, and whether it has a load or a question
@@ -34,15 +33,20 @@ abbrev pub both : RoundValue → RoundValue → RoundValue
 both a b = record { loads = a.loads ++ b.loads; questions = a.questions ++ b.questions }
 
 -- one more command
-abbrev pub gathered : Gathered → Command → Gathered
-gathered g (Load load) = record { ended = g.ended; current = both g.current (round_of (Load load ∷ [])); begun = true }
-gathered g (Ask worker query) = record
+abbrev pub gathered_with : Gathered → Command → Gathered
+gathered_with g (Load load) = record {
+  ended = g.ended;
+  current = both g.current (round_of (Load load ∷ []));
+  begun =
+      true;
+}
+gathered_with g (Ask worker query) = record
     { ended = g.ended; current = both g.current (round_of (Ask worker query ∷ [])); begun = true }
-gathered g Go = record { ended = g.ended ++ g.current ∷ []; current = empty_round; begun = false }
+gathered_with g Go = record { ended = g.ended ++ g.current ∷ []; current = empty_round; begun = false }
 
 -- what is gathered from the lines of a script that say something
 abbrev pub so_far : List (Option Command) → Gathered
-so_far said = fold gathered nothing (flat_map listed said)
+so_far said = fold gathered_with nothing (flat_map command_list said)
 
 -- the open round with what follows in it, and the rounds after it
 abbrev pub onto_open : Gathered → List RoundValue → List RoundValue
@@ -64,8 +68,8 @@ pub record TakesIn (old new : Gathered) (saw : Option Line) (behind : List ℕ) 
     : Type 0 where
   pub commands : List Command
   pub text : ℕ
-  pub says : saying saw (lines behind) ≡ Says commands text
-  pub gathered_are : new ≡ fold gathered old commands
+  pub says : saying_of saw (lines behind) ≡ Says commands text
+  pub gathered_are : new ≡ fold gathered_with old commands
   pub few : loads_so_far new ≤ loads_so_far old + 1
   pub behind_text : lines rest ≡ drop text (lines behind)
   pub enough : text ≤ length (lines behind)

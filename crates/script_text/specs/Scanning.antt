@@ -13,7 +13,7 @@ use Rattle.devices.specs.Lines.{lines, without_end}
 use Rattle.script_text.specs.LineFields.{fields}
 use Rattle.std.specs.Str.{IsUtf8}
 use Rattle.std.specs.Option.{option_map}
-use Rattle.script_text.specs.ScriptFields.{escaped_byte, unescaped}
+use Rattle.script_text.specs.ScriptFields.{escaped_byte, unescaped_text}
 
 -- the text begins with this line, and the rest follows
 pub record IsFirstLine (text line rest : List ℕ) : Type 0 where
@@ -66,5 +66,5 @@ pub record HasTaken (count : ℕ) (text rest : List ℕ) : Type 0 where
 
 -- a part of a text with escapes was read: these bytes, and the rest is left
 pub record HasRead (text bytes rest : List ℕ) : Type 0 where
-  pub going : unescaped text ≡ option_map (λ more. bytes ++ more) (unescaped rest)
+  pub going : unescaped_text text ≡ option_map (λ more. bytes ++ more) (unescaped_text rest)
   pub utf8 : IsUtf8 rest

@@ -23,19 +23,19 @@ pub data Saying : Type 0 where
   IsBad : Saying
 
 -- the PO text of a load is the next `count` lines
-abbrev pub saying : Option Line → List (List ℕ) → Saying
-saying None behind = IsBad
-saying (Some Blank) behind = Says [] 0
-saying (Some (Loads domain locale options count)) behind =
+abbrev pub saying_of : Option Line → List (List ℕ) → Saying
+saying_of None behind = IsBad
+saying_of (Some Blank) behind = Says [] 0
+saying_of (Some (Loads domain locale options count)) behind =
     if nat_le count (length behind) then Says (Load (record {
       domain = domain;
       locale = locale;
       source = Po (concat (take count behind)) options;
     }) ∷ []) count else IsBad
-saying (Some (LoadsMo domain locale bytes)) behind =
+saying_of (Some (LoadsMo domain locale bytes)) behind =
     Says (Load (record { domain = domain; locale = locale; source = Mo bytes }) ∷ []) 0
-saying (Some (Asks worker query)) behind = Says (Ask worker query ∷ []) 0
-saying (Some Goes) behind = Says (Go ∷ []) 0
+saying_of (Some (Asks worker query)) behind = Says (Ask worker query ∷ []) 0
+saying_of (Some Goes) behind = Says (Go ∷ []) 0
 
 -- these commands, and then those that are read from the lines after the text; or this line is the bad one
 abbrev pub and_then : Saying → ℕ → (ℕ → Result (List Command) ℕ) → Result (List Command) ℕ
@@ -50,7 +50,7 @@ and_then (Says commands text) number behind = in_front commands (behind text) wh
 abbrev pub commands_from : (workers number text : ℕ) → List (List ℕ) → Result (List Command) ℕ
 commands_from workers number text [] = Ok []
 commands_from workers number (suc text) (line ∷ rest) = commands_from workers (number + 1) text rest
-commands_from workers number zero (line ∷ rest) = and_then (saying (line_of workers (without_end line)) rest) number
+commands_from workers number zero (line ∷ rest) = and_then (saying_of (line_of workers (without_end line)) rest) number
     (λ text. commands_from workers (number + 1) text rest)
 
 -- ---- rounds

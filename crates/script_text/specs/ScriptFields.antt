@@ -1,7 +1,6 @@
 -- What the fields of a line mean.
 use Rattle.std.specs.Prelude.{ℕ, ◌^◌, ◌&&◌, ◌==◌, Bool, true, false, if◌then◌else◌, nat_lt, nat_le, List, [], ◌∷◌}
-use Rattle.std.specs.Prelude.{length}
-use Rattle.std.specs.Prelude.{codes, Option, Some, None, option_and_then}
+use Rattle.std.specs.Prelude.{length, codes, Option, Some, None, option_and_then}
 use Rattle.std.specs.Char.{is_ascii_digit}
 use Rattle.std.specs.Str.{bytes_eq}
 use Rattle.std.specs.Str.Parse.{digits_value}
@@ -32,14 +31,14 @@ escaped_byte letter =
     if letter == 92 then Some 92 else None
 
 -- a text with its escapes, each a backslash and such a letter
-abbrev pub unescaped : List ℕ → Option (List ℕ)
-unescaped [] = Some []
-unescaped (b ∷ []) = if b == 92 then None else Some (b ∷ [])
-unescaped (b ∷ c ∷ text) = if b == 92 then (do
+abbrev pub unescaped_text : List ℕ → Option (List ℕ)
+unescaped_text [] = Some []
+unescaped_text (b ∷ []) = if b == 92 then None else Some (b ∷ [])
+unescaped_text (b ∷ c ∷ text) = if b == 92 then (do
   byte ← escaped_byte c
-  rest ← unescaped text
+  rest ← unescaped_text text
   Some (byte ∷ rest)) else (do
-    rest ← unescaped (c ∷ text)
+    rest ← unescaped_text (c ∷ text)
     Some (b ∷ rest))
 
 -- how a text is compiled: `-`, or `c` for checked and `f` for fuzzy entries too

@@ -2,7 +2,7 @@
 ghost use Rattle.std.specs.Prelude.{◌≡◌, MatchOption, IfErr, IfSome, option_map, string_bytes};
 ghost use Rattle.std.specs.List.{list_all};
 ghost use Rattle.std.specs.Char.{is_ascii_digit};
-ghost use Rattle.script_text.specs.ScriptFields.{number, unescaped, escaped_byte, options_of, hex_bytes};
+ghost use Rattle.script_text.specs.ScriptFields.{number, unescaped_text, escaped_byte, options_of, hex_bytes};
 ghost use Rattle.script_text.specs.ScriptFields.{has_leading_zero, worker_of, worker_count};
 ghost use Rattle.script_text.specs.LineValues.{Reads};
 ghost use Rattle.script_text.specs.Scanning.{SplitsEscape};
@@ -54,7 +54,7 @@ fn split_escape(text: &str) -> Option<(char, &str)>
 
 /// Replaces the escapes in a field.
 pub(crate) fn read_text(alloc: Global, field: &str) -> Result<String, LineFault>
-    ensures { Reads string_bytes result (unescaped field.now) }
+    ensures { Reads string_bytes result (unescaped_text field.now) }
 {
     let mut text = String::new(alloc);
     let mut rest = field;

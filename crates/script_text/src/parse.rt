@@ -2,11 +2,11 @@
 ghost use Rattle.std.specs.Prelude.{◌≡◌, ◌<◌, ◌≤◌, ◌+◌, ◌^◌, IfOk, IfErr, OnOk, Ok, fold, length};
 ghost use Rattle.devices.specs.Lines.{lines};
 ghost use Rattle.script_text.specs.Commands.{line_of};
-ghost use Rattle.script_text.specs.CommandValues.{command_with, listed};
-ghost use Rattle.script_text.specs.Script.{load_count, script, saying, IsBad};
+ghost use Rattle.script_text.specs.CommandValues.{command_with, command_list};
+ghost use Rattle.script_text.specs.Script.{load_count, script, saying_of, IsBad};
 ghost use Rattle.script_text.specs.Texts.{IsScript, IsTextFault};
 ghost use Rattle.script_text.specs.LineValues.{line_value};
-ghost use Rattle.script_text.specs.Gathering.{HasBegun, TakesIn, gathered, so_far};
+ghost use Rattle.script_text.specs.Gathering.{HasBegun, TakesIn, gathered_with, so_far};
 ghost use Rattle.script_text.specs.Scanning.{IsLineFault, ParseFails};
 
 use crate::command::{Line, Said, read_line, read_workers, says_nothing};
@@ -32,12 +32,12 @@ pub struct Script<'a> {
 
 impl<'a> Model for Script<'a> {
     ghost use Rattle.std.specs.List.{flat_map};
-    ghost use Rattle.script_text.specs.CommandValues.{listed};
+    ghost use Rattle.script_text.specs.CommandValues.{command_list};
     ghost use Rattle.script_text.specs.Script.{ScriptValue, rounds_of};
 
     ghost Value = { ScriptValue };
 
-    ghost view = { λ s. record { workers = s.workers; rounds = rounds_of (flat_map listed s.said.items) } };
+    ghost view = { λ s. record { workers = s.workers; rounds = rounds_of (flat_map command_list s.said.items) } };
 }
 
 /// The fault for line number `line`.
@@ -56,7 +56,7 @@ fn fault_at(fault: LineFault, line: u32) -> ScriptFault
 /// Keeps a line with the text of its load, if it says something.
 fn keep<'a>(said: &mut Vec<Said<'a>>, line: Line, text: &'a [u8]) -> Result<(), AllocError>
     ensures { OnOk result (so_far said.new.items
-        ≡ fold gathered (so_far said.old.items) (listed (command_with (line_value line) text.now))) }
+        ≡ fold gathered_with (so_far said.old.items) (command_list (command_with (line_value line) text.now))) }
 {
     match line {
         Line::Blank => Ok(()),
@@ -78,7 +78,7 @@ fn take_in<'a>(
     ensures ok { IfOk result (λ next. TakesIn (so_far said.old.items) (so_far said.new.items) (line_of workers line.now)
         behind.now number next.0.now next.1) }
     ensures bad { IfErr result (λ fault.
-        fault ≡ LineFault.Bad → saying (line_of workers line.now) (lines behind.now) ≡ IsBad) }
+        fault ≡ LineFault.Bad → saying_of (line_of workers line.now) (lines behind.now) ≡ IsBad) }
 {
     let line = read_line(alloc, workers, line)?;
     let count = line.text_lines();

@@ -2,9 +2,9 @@
 ghost use Rattle.std.specs.Prelude.{◌≡◌, ◌≢◌, ◌≤◌, ◌<◌, ◌+◌, ◌/◌, ◌%◌, ◌^◌, ◌↔◌, ◌++◌, ◌∷◌, []};
 ghost use Rattle.std.specs.Prelude.{length, MatchBool, IsTrue, IfOk, IfErr, OnOk, OnErr};
 ghost use Rattle.std.specs.Arc.{arc_value};
-ghost use Rattle.live_loads.specs.Batches.{StartsWith, version_of, published};
+ghost use Rattle.live_loads.specs.Batches.{StartsWith, version_of, after_publish};
 ghost use Rattle.live_loads.specs.Store.{AreNames, HasRoom, IsWithin, AddsLoad, room_of};
-ghost use Rattle.snapshot_store.specs.Holding.{holding, most_loads};
+ghost use Rattle.snapshot_store.specs.Holding.{store_holding, most_loads};
 ghost use Rattle.snapshot_store.specs.declared.fault.PublishFault.TheVariants.{Memory, Spent};
 
 use crate::away::Away;
@@ -48,11 +48,11 @@ impl Model for Publisher {
     ghost use Rattle.std.specs.Arc.{arc_value};
     ghost use Rattle.live_loads.specs.Batches.{version_of};
     ghost use Rattle.live_loads.specs.Store.{StoreValue};
-    ghost use Rattle.snapshot_store.specs.Holding.{holding, most_loads};
+    ghost use Rattle.snapshot_store.specs.Holding.{store_holding, most_loads};
 
     ghost Value = { StoreValue };
 
-    ghost view = { λ p. holding p.snapshots p.pending.items };
+    ghost view = { λ p. store_holding p.snapshots p.pending.items };
 
     ghost invariant = { λ p. (p.head.word.book ≡ p.snapshots.book)
         × ((arc_value p.shared).shown.word.book ≡ p.snapshots.book)
@@ -64,7 +64,7 @@ impl Model for Publisher {
 
 /// Opens a store in which nothing is published.
 pub fn open_store(alloc: Global) -> Result<Publisher, OpenFault>
-    ensures { IfOk result (λ p. (p ≡ holding p.seen []) × (p.seen.batches ≡ [])) }
+    ensures { IfOk result (λ p. (p ≡ store_holding p.seen []) × (p.seen.batches ≡ [])) }
 {
     let (head, shown, beginning) = open_book();
     // Nobody has the book yet; but no proof knows that the first turn wasn't given.
@@ -230,7 +230,7 @@ impl Publisher {
     pub fn publish(&mut self, alloc: Global) -> Result<u64, PublishFault>
         ensures ok { IfOk result (λ _. self.new.seen ≡ record {
           book = self.old.seen.book;
-          batches = published self.old.seen.batches self.old.pending;
+          batches = after_publish self.old.seen.batches self.old.pending;
         }) }
         ensures version { IfOk result (λ version. version ≡ version_of self.new.seen.batches) }
         ensures empty { IfOk result (λ _. self.new.pending ≡ []) }
@@ -255,7 +255,7 @@ impl Publisher {
 
     /// Publishes what is pending as one batch.
     fn publish_pending(&mut self, alloc: Global) -> Result<(), PublishFault>
-        ensures ok { OnOk result (self.new ≡ holding record {
+        ensures ok { OnOk result (self.new ≡ store_holding record {
           book = self.old.seen.book;
           batches = self.old.seen.batches ++ self.old.pending ∷ [];
         } []) }
@@ -316,7 +316,7 @@ impl Publisher {
         requires word { length self.old.seen.batches ≡ word / 64 }
         requires room { length self.old.seen.batches + 1 < 2 ^ 58 }
         requires next { (next.book ≡ self.old.seen.book) × (next.shown ≡ length self.old.seen.batches + 1) }
-        ensures ok { OnOk result (self.new ≡ holding (arc_value snapshot) []) }
+        ensures ok { OnOk result (self.new ≡ store_holding (arc_value snapshot) []) }
         ensures err { OnErr result (self.new ≡ self.old) }
         ensures fault { IfErr result (λ fault. fault ≡ Memory) }
     {

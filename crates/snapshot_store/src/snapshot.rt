@@ -1,7 +1,7 @@
 //! Snapshots: the set of catalogues after some batches.
 ghost use Rattle.std.specs.Prelude.{◌≡◌, ◌+◌, ◌<◌, ◌^◌, ◌++◌, ◌∷◌, [], length, fold, MatchBool, IfOk, IfSome};
 ghost use Rattle.live_set.specs.Sets.{with_load, fold as fold_of};
-ghost use Rattle.live_loads.specs.Batches.{StartsWith, joined, version_of};
+ghost use Rattle.live_loads.specs.Batches.{StartsWith, joined_loads, version_of};
 ghost use Rattle.snapshot_store.specs.Holding.{IsSetOf};
 
 use crate::book::{Head, Seen, Turn, add_batch};
@@ -21,14 +21,14 @@ pub(crate) struct Snapshot {
 impl Model for Snapshot {
     ghost use Rattle.std.specs.Prelude.{◌≡◌};
     ghost use Rattle.live_set.specs.Sets.{fold};
-    ghost use Rattle.live_loads.specs.Batches.{joined, version_of};
+    ghost use Rattle.live_loads.specs.Batches.{joined_loads, version_of};
     ghost use Rattle.live_loads.specs.Seen.{SeenValue};
 
     ghost Value = { SeenValue };
 
     ghost view = { λ v. v.seen };
 
-    ghost invariant = { λ v. (v.version ≡ version_of v.seen.batches) × (v.set ≡ fold (joined v.seen.batches)) };
+    ghost invariant = { λ v. (v.version ≡ version_of v.seen.batches) × (v.set ≡ fold (joined_loads v.seen.batches)) };
 }
 
 /// The set with these loads, one after another. It shares their catalogues.
@@ -94,7 +94,7 @@ impl Snapshot {
 
     /// A copy of the set, which shares all catalogues with it.
     pub(crate) fn copy_of_set(&self, alloc: Global) -> Result<CatalogueSet, AllocError>
-        ensures { IfOk result (λ set. set ≡ fold_of (joined self.now.batches)) }
+        ensures { IfOk result (λ set. set ≡ fold_of (joined_loads self.now.batches)) }
     {
         self.set.try_clone(alloc)
     }
@@ -110,7 +110,7 @@ impl Snapshot {
         requires book { head.now.word.book ≡ self.now.book }
         requires room { length self.now.batches + 1 < 2 ^ 58 }
         requires loads { version_of self.now.batches + length batch.now.items < 2 ^ 64 }
-        requires set { set ≡ fold_of (joined (self.now.batches ++ batch.now.items ∷ [])) }
+        requires set { set ≡ fold_of (joined_loads (self.now.batches ++ batch.now.items ∷ [])) }
         ensures version { IfSome result (λ r. r.0
             ≡ record { book = self.now.book; batches = self.now.batches ++ batch.now.items ∷ [] }) }
         ensures turn { IfSome result (λ r. (r.1.book ≡ self.now.book)

@@ -2,7 +2,7 @@
 ghost use Rattle.std.specs.Prelude.{◌≡◌, ◌++◌, ◌∷◌, [], IfOk};
 ghost use Rattle.std.specs.Arc.{arc_value};
 ghost use Rattle.live_set.specs.Sets.{fold as fold_of};
-ghost use Rattle.live_loads.specs.Batches.{joined};
+ghost use Rattle.live_loads.specs.Batches.{joined_loads};
 
 use crate::book::Seen;
 use crate::snapshot::{Snapshot, with_loads};
@@ -60,7 +60,7 @@ impl Snapshots {
         alloc: Global,
         batch: &Vec<Load>,
     ) -> Result<CatalogueSet, AllocError>
-        ensures { IfOk result (λ set. set ≡ fold_of (joined (self.now.batches ++ batch.now.items ∷ []))) }
+        ensures { IfOk result (λ set. set ≡ fold_of (joined_loads (self.now.batches ++ batch.now.items ∷ []))) }
     {
         with_loads(self.current.copy_of_set(alloc)?, batch)
     }

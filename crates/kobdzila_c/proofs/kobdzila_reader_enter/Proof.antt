@@ -1,11 +1,10 @@
 -- `kobdzila_reader_enter`: the reader is moved out of the caller's memory, `enter` makes it enter, and it is moved
 -- back.
 use Rattle.kobdzila_c.proofs.Kit.{List, [], ◌∷◌, ◌++◌, refl, full_share, id⊢, froom, ‵, ◌$◌, !, move, use1, fjoin}
-use Rattle.kobdzila_c.proofs.Kit.{enter, of_opd, unit_lit, init, load, look, stop, no_more, and_then, assigns}
-use Rattle.kobdzila_c.proofs.Kit.{returns, alloc_all, pass_all, free_all, look_at, get, through, sets, lands_as}
-use Rattle.kobdzila_c.proofs.Kit.{tables, lone, Ptr, block_ptr, lies_at, nothing, heard, triple_of, framed, at}
-use Rattle.kobdzila_c.proofs.Kit.{exported, reads_out, calls, Taken, pointer, front, with_out, back, points}
-use Rattle.kobdzila_c.proofs.Kit.{gives_made}
+use Rattle.kobdzila_c.proofs.Kit.{enter, of_opd, unit_lit, init, load, look, stop, no_more, and_then, assigns, returns}
+use Rattle.kobdzila_c.proofs.Kit.{alloc_all, pass_all, free_all, look_at, get, through, sets, lands_as, tables, lone}
+use Rattle.kobdzila_c.proofs.Kit.{Ptr, block_ptr, lies_at, nothing, heard, triple_of, framed, at, exported, reads_out}
+use Rattle.kobdzila_c.proofs.Kit.{calls, Taken, pointer, front, with_out, back, points, gives_made}
 use Rattle.c_sets.specs.declared.sets.HeldSet.{HeldSet}
 use Rattle.c_stores.specs.Storing.{IsEntered}
 use Rattle.c_sets.specs.contracts.sets.HeldSet.{the_row as R}

@@ -1,11 +1,10 @@
 -- `kobdzila_store_reclaim`: the store is moved out of the caller's memory, `reclaim` frees what nobody has, and it is
 -- moved back.
 use Rattle.kobdzila_c.proofs.Kit.{List, [], ◌∷◌, ◌++◌, refl, full_share, id⊢, froom, ‵, ◌$◌, !, move, use1, fjoin}
-use Rattle.kobdzila_c.proofs.Kit.{enter, of_opd, unit_lit, init, load, look, stop, no_more, and_then, assigns}
-use Rattle.kobdzila_c.proofs.Kit.{returns, alloc_all, pass_all, free_all, look_at, get, through, sets, lands_as}
-use Rattle.kobdzila_c.proofs.Kit.{tables, lone, Ptr, block_ptr, lies_at, nothing, heard, triple_of, framed, at}
-use Rattle.kobdzila_c.proofs.Kit.{exported, reads_out, calls, Taken, pointer, front, with_out, back, points}
-use Rattle.kobdzila_c.proofs.Kit.{gives_made}
+use Rattle.kobdzila_c.proofs.Kit.{enter, of_opd, unit_lit, init, load, look, stop, no_more, and_then, assigns, returns}
+use Rattle.kobdzila_c.proofs.Kit.{alloc_all, pass_all, free_all, look_at, get, through, sets, lands_as, tables, lone}
+use Rattle.kobdzila_c.proofs.Kit.{Ptr, block_ptr, lies_at, nothing, heard, triple_of, framed, at, exported, reads_out}
+use Rattle.kobdzila_c.proofs.Kit.{calls, Taken, pointer, front, with_out, back, points, gives_made}
 use Rattle.c_stores.specs.declared.stores.HeldStore.{HeldStore}
 use Rattle.c_stores.specs.Storing.{IsReclaimed}
 use Rattle.c_stores.specs.contracts.stores.HeldStore.{the_row as R}

@@ -1,7 +1,7 @@
 //! The reading threads: each client's requests.
 ghost use Rattle.std.specs.Prelude.{◌≡◌, [], ◌∷◌, None, IfOk, OnOk, IsSome};
 ghost use Rattle.live_set.specs.Asks.{IsAnswer};
-ghost use Rattle.live_versions.specs.Batches.{joined, version_of, StartsWith};
+ghost use Rattle.live_versions.specs.Batches.{joined_loads, version_of, StartsWith};
 ghost use Rattle.life.specs.Acts.{LeadsAll};
 ghost use Rattle.life.specs.Boards.{numbers_of};
 ghost use Rattle.life.specs.Replies.{AreTextsOf, AreReplies, IsTold, IsAnswered, queries_in, acts_for};
@@ -19,7 +19,7 @@ use thread_tree::Work;
 /// The answer to a query in the version that the reader entered last.
 #[tactic(auto, using(crate::proofs::Looking::asked))]
 fn look<'a>(reader: &'a Reader, query: &'a Query) -> &'a str
-    ensures { IsAnswer (joined reader.now.batches) query.now result.now }
+    ensures { IsAnswer (joined_loads reader.now.batches) query.now result.now }
 {
     reader.set().look(query)
 }
@@ -27,7 +27,7 @@ fn look<'a>(reader: &'a Reader, query: &'a Query) -> &'a str
 /// A copy of each query's text in that version.
 #[tactic(auto, using(crate::proofs::Entries::texts_more))]
 fn look_all(alloc: Global, reader: &Reader, queries: &[Query]) -> Result<Vec<String>, AllocError>
-    ensures { IfOk result (λ texts. AreTextsOf (joined reader.now.batches) queries.now texts.items) }
+    ensures { IfOk result (λ texts. AreTextsOf (joined_loads reader.now.batches) queries.now texts.items) }
 {
     let mut texts = Vec::new(alloc);
     for index in 0..queries.len() {
@@ -50,7 +50,7 @@ fn answer_after(
     ensures later { StartsWith reader.new.batches reader.old.batches }
     ensures learnt { IfOk result (λ reply. reply.learnt ≡ None) }
     ensures version { IfOk result (λ reply. reply.version ≡ version_of reader.new.batches) }
-    ensures texts { IfOk result (λ reply. AreTextsOf (joined reader.new.batches) queries.now reply.texts.items) }
+    ensures texts { IfOk result (λ reply. AreTextsOf (joined_loads reader.new.batches) queries.now reply.texts.items) }
 {
     if !reader.enter_after(notice) {
         return Err(AllocError);

@@ -1,4 +1,5 @@
-use Rattle.catserve.proofs.Common.{◌≡◌, ◌∙◌, ◌++◌, refl, sym, ap, arith, [], append-nil, joined, version_of, StoreValue}
+use Rattle.catserve.proofs.Common.{◌≡◌, ◌∙◌, ◌++◌, refl, sym, ap, arith, [], append-nil, joined_loads, version_of}
+use Rattle.catserve.proofs.Common.{StoreValue}
 use Rattle.catserve.proofs.Common.{SeenValue, desk_lines}
 use Rattle.catserve.proofs.Asked.{answers_in_turn, ready_again, ready_still, books_given, none_in_turn, whole_of}
 use Rattle.catserve.proofs.Asked.{done_none}
@@ -18,7 +19,7 @@ returns-then-not-any_asked-clause-ok g c round was before none loaded asked =
     plays_one c.args.publisher.now c.in-Ok.version written [] none loaded.loaded loaded.seen
     (ap (λ (f : SeenValue). f.batches) c.in-Ok.ensures.ok) c.in-Ok.ensures.empty (c.in-Ok.ensures.most ∙ loaded.most)
     c.in-Ok.ensures.version c.in_ok-write_version.ensures
-    (none_in_turn (joined published.seen.batches) round.questions 0 c.args.desks.now.items asked nobody)
+    (none_in_turn (joined_loads published.seen.batches) round.questions 0 c.args.desks.now.items asked nobody)
     (sym (append-nil written))
 
 pub returns-then-not-any_asked-clause-ready : goal.returns-then-not-any_asked-clause-ready

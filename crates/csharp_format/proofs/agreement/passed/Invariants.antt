@@ -1,6 +1,6 @@
 use Rattle.std.proofs.Common.{◌≡◌, take}
-use Rattle.csharp_format.specs.CSharpAgreement.{passed}
+use Rattle.csharp_format.specs.CSharpAgreement.{argument_count}
 use Rattle.csharp_format.proofs.agreement.passed.Given as goal
 
 abbrev pub invariant-asked : goal.invariant-asked
-invariant-asked l = l.count ≡ passed (take l.argument-index l.asked)
+invariant-asked l = l.count ≡ argument_count (take l.argument-index l.asked)

@@ -7,6 +7,6 @@ use Rattle.dependent_files.proofs.here.expanded.Given as goal
 abbrev pub invariant-splits : goal.invariant-splits
 invariant-splits l = record {
   told : option_map (λ rest. l.out.items ++ rest)
-      (expanded_from l.text.bytes.items l.from (drop l.i l.text.splits.items)) ≡ Here.expanded l.text;
+      (expanded_from l.text.bytes.items l.from (drop l.i l.text.splits.items)) ≡ Here.expanded_text l.text;
   lies : LieFrom l.text.bytes.items l.from (drop l.i l.text.splits.items);
 }

@@ -1,8 +1,7 @@
 use Rattle.std.proofs.Common.{rules, ◌+◌, ◌++◌, ◌∷◌, [], refl, sym, take, drop}
 use Rattle.std.proofs.lemmas.List.{take-append-drop}
 use Rattle.desks.proofs.Jobs.{is_published, playing_first, playing_more, split_at, split_behind, stops_done}
-use Rattle.desks.proofs.Jobs.{stops_in_job}
-use Rattle.desks.proofs.Jobs.{taken}
+use Rattle.desks.proofs.Jobs.{stops_in_job, taken}
 use Rattle.desks.proofs.publish.do_jobs.Goals as goal
 
 pub loop-index-init : goal.loop-index-init

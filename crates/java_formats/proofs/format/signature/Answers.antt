@@ -2,7 +2,7 @@ use Rattle.std.proofs.Common.{List, ℕ, ap, sym, ◌∙◌, ◌<◌, refl, subs
 use Rattle.std.proofs.lemmas.Result.{err_from_is_err_and}
 use Rattle.java_formats.specs.declared.reading.Text as code_text
 use Rattle.java_formats.specs.declared.reading.Found.{Found}
-use Rattle.java_formats.specs.JavaReading.{waiting, weight, Blocks, Reads}
+use Rattle.java_formats.specs.JavaReading.{waiting_texts, weight, Blocks, Reads}
 use Rattle.java_formats.proofs.ReadingLemmas.{begin, waiting_push, read_first, reads_next, fault_is, first_fault}
 use Rattle.java_formats.proofs.ReadingLemmas.{none_left, inconsistent}
 use Rattle.java_formats.proofs.format.signature.Goals as goal
@@ -23,7 +23,7 @@ nested-init c =
 pub returns-in_err-read-2-clause-err : goal.returns-in_err-read-2-clause-err
 returns-in_err-read-2-clause-err c =
     let before : Found = record { asked = c.nested.found.asked; pending = c.pop.new.self } in
-    let waits = ap (λ (texts : List code_text.Text). waiting texts) c.in-Some.ensures.items
+    let waits = ap (λ (texts : List code_text.Text). waiting_texts texts) c.in-Some.ensures.items
     ∙ waiting_push c.pop.new.self.items c.in-Some.nested in
     let fault = c.in_err-read-2.field-0.0 in
     let p = err_from_is_err_and c.from_residual-in_err-read-2.result c.from_residual-in_err-read-2.ensures.1 in
@@ -35,16 +35,16 @@ returns-in_err-read-2-clause-err c =
 pub nested-smaller : goal.nested-smaller
 nested-smaller c =
     let before : Found = record { asked = c.nested.found.asked; pending = c.pop.new.self } in
-    let waits = ap (λ (texts : List code_text.Text). waiting texts) c.in-Some.ensures.items
+    let waits = ap (λ (texts : List code_text.Text). waiting_texts texts) c.in-Some.ensures.items
     ∙ waiting_push c.pop.new.self.items c.in-Some.nested in
-    let lighter = subst (λ (bytes : List ℕ). weight (waiting c.read-in-Some.new.self.pending.items)
+    let lighter = subst (λ (bytes : List ℕ). weight (waiting_texts c.read-in-Some.new.self.pending.items)
     < weight (begin c.in-Some.nested.sort bytes before)) c.deref.ensures.value c.in_ok-read-2.ensures.lighter in
     omega (arith, lighter, ap weight waits)
 
 pub nested-preserved : goal.nested-preserved
 nested-preserved c =
     let before : Found = record { asked = c.nested.found.asked; pending = c.pop.new.self } in
-    let waits = ap (λ (texts : List code_text.Text). waiting texts) c.in-Some.ensures.items
+    let waits = ap (λ (texts : List code_text.Text). waiting_texts texts) c.in-Some.ensures.items
     ∙ waiting_push c.pop.new.self.items c.in-Some.nested in
     let reads = subst (λ (bytes : List ℕ). Reads (begin c.in-Some.nested.sort bytes before) before
     c.read-in-Some.new.self) c.deref.ensures.value c.in_ok-read-2.ensures.ok in

@@ -1,4 +1,4 @@
-use Rattle.java_formats.specs.JavaReading.{waiting, weight}
+use Rattle.java_formats.specs.JavaReading.{waiting_texts, weight}
 use Rattle.java_formats.proofs.ReadingLemmas.{HasReadAll}
 use Rattle.java_formats.proofs.format.signature.Given as goal
 
@@ -6,4 +6,4 @@ abbrev pub invariant-nested : goal.invariant-nested
 invariant-nested l = HasReadAll l.text l.found
 
 abbrev pub decreases-nested : goal.decreases-nested
-decreases-nested l = weight (waiting l.found.pending.items)
+decreases-nested l = weight (waiting_texts l.found.pending.items)

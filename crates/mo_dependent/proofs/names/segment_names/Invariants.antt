@@ -1,7 +1,7 @@
 use Rattle.std.proofs.Common.{◌≡◌, [], map, drop}
-use Rattle.mo_dependent.specs.Segments.{numbered, uses}
+use Rattle.mo_dependent.specs.Segments.{names_after, uses}
 use Rattle.mo_dependent.proofs.names.segment_names.Given as goal
 
 abbrev pub invariant-messages : goal.invariant-messages
-invariant-messages l = numbered (map (λ n. n.now) l.names.items) (uses (drop l.i l.dependents))
-    ≡ numbered [] (uses l.dependents)
+invariant-messages l = names_after (map (λ n. n.now) l.names.items) (uses (drop l.i l.dependents))
+    ≡ names_after [] (uses l.dependents)

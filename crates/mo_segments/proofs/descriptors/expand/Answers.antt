@@ -1,8 +1,7 @@
 use Rattle.std.proofs.Common.{◌≡◌, ℕ, ◌+◌, ◌-◌, ◌<◌, ◌^◌, ◌++◌, List, [], Bool, length}
 use Rattle.std.proofs.Common.{get_or, take, drop, Option, Some, None, sym, ap, ◌∙◌, subst, arith}
-use Rattle.std.specs.Prelude.{IsTrue, ◌↔◌, slice_get}
+use Rattle.std.specs.Prelude.{IsTrue, ◌↔◌, slice_get, option_map}
 use Rattle.std.proofs.lemmas.List.{append-nil, length-map}
-use Rattle.std.specs.Prelude.{option_map}
 use Rattle.mo_segments.specs.Machine.{value_text}
 use Rattle.mo_segments.specs.declared.machine.Value.{Value}
 use Rattle.mo_segments.specs.Descriptors.{GoesOn, Knows, RowLies, PieceLies, piece, piece_len, known_text}

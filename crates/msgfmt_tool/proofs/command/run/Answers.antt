@@ -2,7 +2,7 @@ use Rattle.std.proofs.Common.{◌∙◌, ap, map, rules, string_bytes, subst}
 use Rattle.msgfmt_words.specs.Requests.{asked_in}
 use Rattle.msgfmt_tool.specs.Runs.{change, files_seen}
 use Rattle.devices.specs.Devices.{input_seen, output_seen}
-use Rattle.msgfmt_words.specs.Words.{AreTaken, asked}
+use Rattle.msgfmt_words.specs.Words.{AreTaken, request_in}
 use Rattle.msgfmt_tool.proofs.RunLemmas.{ended}
 use Rattle.msgfmt_tool.proofs.command.run.Goals as goal
 
@@ -17,7 +17,7 @@ returns-in-Ok g c =
     (g.E.Sink.failures c.args.errors.now) (g.E.Sink.failures c.work-done.new.errors)
     (g.E.Sink.failures c.end.new.errors) c.end.ensures.later
     (map string_bytes c.args.words.items) (subst (λ ws. AreTaken ws) words-is c.in-Ok.ensures.taken)
-    (asked_in c.in-Ok.request) (c.in-Ok.ensures.asked ∙ ap asked words-is) c.work-done.result c.end.result
+    (asked_in c.in-Ok.request) (c.in-Ok.ensures.asked ∙ ap request_in words-is) c.work-done.result c.end.result
     c.work-done.ensures c.end.ensures.tells
 
 pub returns : goal.returns

@@ -2,8 +2,7 @@ use Rattle.std.proofs.Common.{◌≡◌, List, [], map, rules, subst, sym}
 use Rattle.std.specs.Prelude.{option_map}
 use Rattle.format_arguments.specs.declared.Argument as code_argument
 use Rattle.format_arguments.specs.ArgumentViews.{argument_view}
-use Rattle.format_arguments.proofs.TextLemmas.{HasRead, read_nothing, unreadable, step_shorter, reads_on}
-use Rattle.format_arguments.proofs.TextLemmas.{has_signature}
+use Rattle.format_arguments.proofs.TextLemmas.{HasRead, read_nothing, unreadable, step_shorter, reads_on, has_signature}
 use Rattle.python_brace_format.specs.BraceSpecifiers.{open_brace}
 use Rattle.python_brace_format.specs.BraceDirectives.{DirectiveAt, asks}
 use Rattle.python_brace_format.proofs.DirectiveLemmas.{are_directives}

@@ -7,7 +7,7 @@ use Rattle.python_format.proofs.parts.name_len.Goals as goal
 
 pub returns : goal.returns
 returns c name rest e balanced =
-    let whole : take c.bytes.place c.args.text.now ≡ c.args.text.now = take_all c.bytes.place c.args.text.now
+    let whole : take c.bytes.offset c.args.text.now ≡ c.args.text.now = take_all c.bytes.offset c.args.text.now
     (omega (arith, c.bytes-test.false, c.bytes.invariant.within)) in
     name_none c.args.text.now name rest c.bytes.depth
     (subst (λ (t : List ℕ). fold open_after (Some 0) t ≡ Some c.bytes.depth) whole c.bytes.invariant.depth) e balanced

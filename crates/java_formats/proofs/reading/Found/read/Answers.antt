@@ -1,8 +1,7 @@
 use Rattle.std.proofs.Common.{Bor, List, ℕ, Option, sym, subst}
 use Rattle.std.specs.Prelude.{option_map}
 use Rattle.java_formats.specs.JavaReading.{step_view}
-use Rattle.java_formats.proofs.ReadingLemmas.{HasReadTo, read_nothing, reads_further, read_shorter}
-use Rattle.java_formats.proofs.ReadingLemmas.{no_step}
+use Rattle.java_formats.proofs.ReadingLemmas.{HasReadTo, read_nothing, reads_further, read_shorter, no_step}
 use Rattle.java_formats.proofs.reading.Found.read.Goals as goal
 
 pub steps-init : goal.steps-init
