@@ -28,6 +28,7 @@ MOST_WORDS = 35  # of the sentence that opens a file of specs/
 ON_A_STANDARD = ("c_signature", "mo_file", "mo_image", "mo_tables", "po_checks", "po_header", "po_text", "po_writing")
 OWN_WORDS = {
     ("po_checks", "Found"),
+    ("po_checks", "Headers"),
     ("po_checks", "Refusal"),
     ("po_text", "Faults"),
     ("po_text", "Lawful"),
@@ -41,6 +42,7 @@ PARTS = (
     "C# Format Strings",
     "Contexts",
     "GCC internal Format Strings",
+    "GFC internal Format Strings",
     "Header Entry",
     "Interface to gettext",
     "Lisp Format Strings",
