@@ -1,7 +1,8 @@
 //! The key of a text: the text with its front, the number that its first eight bytes spell.
-ghost use Rattle.std.specs.Prelude.{◌≡◌, ◌≤◌, drop, length, slice_index, IsTrue};
+ghost use Rattle.std.specs.Prelude.{◌≡◌, ◌≤◌, Some, drop, length, refl, slice_index, IsTrue};
 ghost use Rattle.std.specs.Ordering.{nat_cmp};
-ghost use Rattle.std.specs.Cmp.Lexicographic.{slice_cmp};
+ghost use Rattle.std.specs.Cmp.{partial_equiv_from_equiv};
+ghost use Rattle.std.specs.Cmp.Lexicographic.{nat_list_cmp_total, nat_list_eq_equiv, slice_cmp, texts_po, texts_ties};
 ghost use Rattle.std.specs.Str.{bytes_eq};
 ghost use Rattle.byte_text.specs.Front.{HaveOneFront, IsFrontOf};
 
@@ -109,10 +110,49 @@ impl<'a> TextKey<'a> {
         self.text
     }
 
-    /// The order of two texts, by their bytes.
-    pub fn compare(&self, other: &TextKey<'_>) -> Ordering
-        ensures { result ≡ slice_cmp nat_cmp self.now other.now }
+    /// Whether two texts have equal fronts.
+    pub(crate) fn has_front_of(&self, other: &TextKey<'_>) -> bool
+        ensures { IsTrue result → HaveOneFront self.now other.now }
     {
+        self.front == other.front
+    }
+}
+
+impl<'a> PartialEq for TextKey<'a> {
+    ghost eq = { bytes_eq };
+
+    ghost laws = { partial_equiv_from_equiv nat_list_eq_equiv };
+
+    fn eq(&self, other: &TextKey<'a>) -> bool {
+        self.front == other.front && self.text == other.text
+    }
+}
+
+impl<'a> Eq for TextKey<'a> {
+    ghost laws = { nat_list_eq_equiv };
+}
+
+impl<'a> PartialOrd for TextKey<'a> {
+    ghost partial_cmp = { λ a b. Some (slice_cmp nat_cmp a b) };
+
+    ghost laws = { texts_po };
+
+    fn partial_cmp(&self, other: &TextKey<'a>) -> Option<Ordering> {
+        Some(self.cmp(other))
+    }
+}
+
+/// Texts are in the order of their bytes.
+impl<'a> Ord for TextKey<'a> {
+    ghost cmp = { slice_cmp nat_cmp };
+
+    ghost total = { nat_list_cmp_total };
+
+    ghost matches_partial_cmp = { λ a b. refl };
+
+    ghost matches_eq = { λ a b. texts_ties a b };
+
+    fn cmp(&self, other: &TextKey<'a>) -> Ordering {
         if self.front != other.front {
             return self.front.cmp(&other.front);
         }
@@ -120,19 +160,5 @@ impl<'a> TextKey<'a> {
             return Ordering::Equal;
         }
         self.as_str().cmp(other.as_str())
-    }
-
-    /// Whether two texts have equal fronts.
-    pub(crate) fn has_front_of(&self, other: &TextKey<'_>) -> bool
-        ensures { IsTrue result → HaveOneFront self.now other.now }
-    {
-        self.front == other.front
-    }
-
-    /// Whether two texts have the same bytes.
-    pub fn is_same(&self, other: &TextKey<'_>) -> bool
-        ensures { result ≡ bytes_eq self.now other.now }
-    {
-        self.front == other.front && self.text == other.text
     }
 }

@@ -1,8 +1,9 @@
 //! Keys that hold the first sixteen bytes of a text, for sorting many texts: a comparison that has to read the texts
 //! themselves waits for memory.
-ghost use Rattle.std.specs.Prelude.{◌≡◌, drop};
+ghost use Rattle.std.specs.Prelude.{◌≡◌, Some, drop, refl};
 ghost use Rattle.std.specs.Ordering.{nat_cmp};
-ghost use Rattle.std.specs.Cmp.Lexicographic.{slice_cmp};
+ghost use Rattle.std.specs.Cmp.{partial_equiv_from_equiv};
+ghost use Rattle.std.specs.Cmp.Lexicographic.{nat_list_cmp_total, nat_list_eq_equiv, slice_cmp, texts_po, texts_ties};
 ghost use Rattle.std.specs.Str.{bytes_eq};
 ghost use Rattle.byte_text.specs.Front.{IsFrontOf};
 
@@ -47,21 +48,46 @@ impl<'a> LongKey<'a> {
     {
         self.key.as_str()
     }
+}
 
-    /// The order of two texts, by their bytes.
-    pub fn compare(&self, other: &LongKey<'_>) -> Ordering
-        ensures { result ≡ slice_cmp nat_cmp self.now other.now }
-    {
+impl<'a> PartialEq for LongKey<'a> {
+    ghost eq = { bytes_eq };
+
+    ghost laws = { partial_equiv_from_equiv nat_list_eq_equiv };
+
+    fn eq(&self, other: &LongKey<'a>) -> bool {
+        self.key == other.key
+    }
+}
+
+impl<'a> Eq for LongKey<'a> {
+    ghost laws = { nat_list_eq_equiv };
+}
+
+impl<'a> PartialOrd for LongKey<'a> {
+    ghost partial_cmp = { λ a b. Some (slice_cmp nat_cmp a b) };
+
+    ghost laws = { texts_po };
+
+    fn partial_cmp(&self, other: &LongKey<'a>) -> Option<Ordering> {
+        Some(self.cmp(other))
+    }
+}
+
+/// Texts are in the order of their bytes.
+impl<'a> Ord for LongKey<'a> {
+    ghost cmp = { slice_cmp nat_cmp };
+
+    ghost total = { nat_list_cmp_total };
+
+    ghost matches_partial_cmp = { λ a b. refl };
+
+    ghost matches_eq = { λ a b. texts_ties a b };
+
+    fn cmp(&self, other: &LongKey<'a>) -> Ordering {
         if self.key.has_front_of(&other.key) && self.next != other.next {
             return self.next.cmp(&other.next);
         }
-        self.key.compare(&other.key)
-    }
-
-    /// Whether two texts have the same bytes.
-    pub fn is_same(&self, other: &LongKey<'_>) -> bool
-        ensures { result ≡ bytes_eq self.now other.now }
-    {
-        self.key.is_same(&other.key)
+        self.key.cmp(&other.key)
     }
 }

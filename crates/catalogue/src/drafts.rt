@@ -79,7 +79,7 @@ pub(crate) fn header_text<'a>(drafts: &[Draft<'a>]) -> Option<&'a str>
 fn compare(a: &Draft<'_>, b: &Draft<'_>) -> Ordering
     ensures { result ≡ outline_cmp (outline a.now) (outline b.now) }
 {
-    a.key.compare(&b.key).then(a.number.cmp(&b.number))
+    a.key.cmp(&b.key).then(a.number.cmp(&b.number))
 }
 
 /// Sorts the drafts by key; those with equal keys stay in the order of the PO text.
@@ -109,7 +109,7 @@ fn earlier<'d, 'a>(
     ensures { outline_if result ≡ Drafts.earlier_repeat (outline before.now) (outline draft.now)
         (outline_if first.entry) }
 {
-    if before.key.is_same(&draft.key) && is_earlier(draft, first) {
+    if before.key == draft.key && is_earlier(draft, first) {
         Some(draft)
     } else {
         first

@@ -81,8 +81,8 @@ impl Load {
     pub(crate) fn compare(&self, domain: &TextKey<'_>, locale: &TextKey<'_>) -> Ordering
         ensures { result ≡ order_of self.now (probe domain.now locale.now) }
     {
-        match self.locale().compare(locale) {
-            Ordering::Equal => self.domain().compare(domain),
+        match self.locale().cmp(locale) {
+            Ordering::Equal => self.domain().cmp(domain),
             order => order,
         }
     }

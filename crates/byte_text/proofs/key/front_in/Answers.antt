@@ -1,4 +1,4 @@
-use Rattle.std.proofs.Common.{◌≡◌, ap, ◌∙◌, arith}
+use Rattle.std.proofs.Common.{◌≡◌, arith}
 use Rattle.byte_text.specs.Front.{leading}
 use Rattle.byte_text.proofs.key.front_in.Goals as goal
 

@@ -2,7 +2,7 @@ use Rattle.std.proofs.Common.{sym, ap, ◌∙◌}
 use Rattle.std.specs.Ordering.{nat_cmp}
 use Rattle.std.specs.Cmp.Lexicographic.{slice_cmp}
 use Rattle.byte_text.proofs.Fronts.{by_fronts, tie_by_lengths}
-use Rattle.byte_text.proofs.key.TextKey.compare.Goals as goal
+use Rattle.byte_text.proofs.key.TextKeyOrd.cmp.Goals as goal
 
 pub returns-then-self-other : goal.returns-then-self-other
 returns-then-self-other c =

@@ -1,9 +1,8 @@
 use Rattle.std.proofs.Common.{ap, ◌∙◌}
 use Rattle.std.specs.Ordering.{nat_cmp}
 use Rattle.std.specs.Cmp.Lexicographic.{slice_cmp}
-use Rattle.byte_text.specs.Front.{HaveOneFront}
 use Rattle.byte_text.proofs.Fronts.{by_next}
-use Rattle.byte_text.proofs.long.LongKey.compare.Goals as goal
+use Rattle.byte_text.proofs.long.LongKeyOrd.cmp.Goals as goal
 
 pub returns-then-self-other : goal.returns-then-self-other
 returns-then-self-other c =
