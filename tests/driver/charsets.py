@@ -15,11 +15,13 @@ from pathlib import Path
 
 SPECS = Path("crates/charsets/specs")
 ROWS_SPECS = [Path("crates") / crate / "specs"
-              for crate in ("euc_jp_rows", "euc_kr_rows", "big5_rows", "gb2312_rows", "gbk_rows")]
+              for crate in ("euc_jp_rows", "euc_kr_rows", "big5_rows", "gb2312_rows", "gbk_low_rows",
+                            "gbk_high_rows")]
 CASES = re.compile(r"^(?P<word>names|table) (?P<variant>\w+) =(?P<value>.*?)(?=^(?:names|table) |\Z)", re.M | re.S)
 TABLE = re.compile(r"^(?P<name>\w+) =\n(?P<rows>(?: +0x.*\n)+)", re.M)
 PAIRS = re.compile(r"^pairs (?P<variant>\w+) first = (?P<grid>\w+) first$", re.M)
 GRID = re.compile(r"^(?P<grid>\w+)(?: first)? =(?P<value>.*?)(?=^\w|^--|\Z)", re.M | re.S)
+SEVERAL = re.compile(r"(\w+) first\)*$", re.M)
 CELLS = re.compile(r"first_row = (\w+); first_column = (\w+); rows = (\w+)")
 ROWS = re.compile(r"^(?P<name>\w+) =\n(?P<rows>(?: +.*\n)+)", re.M)
 TERM = re.compile(r'codes "((?:[^"\\]|\\.)*)"|replicate (\d+) 0|(∷)')
@@ -66,21 +68,31 @@ def rows():
     return found
 
 
+def bounds_in(value):
+    """The first bytes at which a definition goes on to its next case: 0, those that it compares with, and 256."""
+    return [0] + [int(bound, 16) for bound in re.findall(r"nat_lt first (\w+)", value)] + [256]
+
+
 def grids():
     """The cells of two bytes that have a character, by the variant; those behind 8F are under None."""
-    variants = {pairs["grid"]: pairs["variant"] for pairs in PAIRS.finditer((SPECS / "Pairs.antt").read_text("utf-8"))}
+    of_charsets = (SPECS / "Pairs.antt").read_text("utf-8")
+    variants = {pairs["grid"]: pairs["variant"] for pairs in PAIRS.finditer(of_charsets)}
     variants["euc_jp_8f"] = None
     texts = [path.read_text(encoding="utf-8") for specs in ROWS_SPECS for path in specs.glob("*Grids.antt")]
     known, found = rows(), {}
     for case in (case for text in texts for case in GRID.finditer(text)):
         parts = [(int(row, 16), int(column, 16), known[name]) for row, column, name in CELLS.findall(case["value"])
                  if name in known]
-        bounds = [int(bound, 16) for bound in re.findall(r"nat_lt first (\w+)", case["value"])] + [256]
-        found[variants[case["grid"]]] = {
+        found[case["grid"]] = {
             (row + i, column + j): code
-            for (row, column, cells), bound in zip(parts, bounds)
+            for (row, column, cells), bound in zip(parts, bounds_in(case["value"])[1:])
             for i, line in enumerate(cells) if row + i < bound for j, code in enumerate(line) if code}
-    return found
+    for case in GRID.finditer(of_charsets):  # a charset that has several grids
+        bounds = bounds_in(case["value"])
+        found[case["grid"]] = {
+            pair: code for grid, least, bound in zip(SEVERAL.findall(case["value"]), bounds, bounds[1:])
+            for pair, code in found[grid].items() if least <= pair[0] < bound}
+    return {variant: found[grid] for grid, variant in variants.items()}
 
 
 def decoded(variant, text, table, pairs, behind_8f):

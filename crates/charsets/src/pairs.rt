@@ -2,14 +2,27 @@
 ghost use Rattle.std.specs.Prelude.{◌≡◌};
 ghost use Rattle.std.specs.Char.{IsScalar};
 ghost use Rattle.charset_grid.specs.Grid.{cell};
-ghost use Rattle.charsets.specs.Pairs.{pairs};
+ghost use Rattle.charsets.specs.Pairs.{gbk, pairs};
 
 use crate::kinds::Charset;
 use big5_rows::big5;
 use euc_jp_rows::euc_jp;
 use euc_kr_rows::euc_kr;
 use gb2312_rows::gb2312;
-use gbk_rows::gbk;
+use gbk_high_rows::gbk_high;
+use gbk_low_rows::gbk_low;
+
+/// The code point of two bytes in GBK, 0 if they are no character.
+fn gbk(first: u8, second: u8) -> u16
+    ensures value { result ≡ cell (gbk first) first second }
+    ensures character { IsScalar result }
+{
+    if first < 0xD1 {
+        gbk_low(first, second)
+    } else {
+        gbk_high(first, second)
+    }
+}
 
 /// The code point of two bytes, 0 if they are no character.
 pub(crate) fn code_of_two(charset: Charset, first: u8, second: u8) -> u16

@@ -1,0 +1,2 @@
+pub mod GbkHighRows
+pub mod GbkHighGrids

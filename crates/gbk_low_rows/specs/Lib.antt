@@ -1,0 +1,2 @@
+pub mod GbkLowRows
+pub mod GbkLowGrids

@@ -1,2 +1,0 @@
-pub mod GbkRows
-pub mod GbkGrids

@@ -1,7 +1,0 @@
-//! The characters of two bytes in GBK.
-#![tactic(auto)]
-
-mod grids;
-mod rows;
-
-pub use grids::gbk;
