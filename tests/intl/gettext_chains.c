@@ -160,13 +160,15 @@ static void ring_soon(void) {
     timer_settime(timer, 0, &soon, NULL);
 }
 
+/* The last signal may be handled when the timer is deleted. */
 static void handle(int signal) {
     (void)signal;
     ask_one(0, 0);
     ask_one(1, 0);
     ask_one(0, 1);
     atomic_fetch_add(&handled, 1);
-    ring_soon();
+    if (!atomic_load(&ended))
+        ring_soon();
 }
 
 static void interrupt_often(void) {
@@ -193,6 +195,7 @@ static void interrupt_often(void) {
             dgettext(domain, "text");
         }
     }
+    atomic_store(&ended, 1);
     timer_delete(timer);
     if (atomic_load(&handled) < 10)
         fault("hardly any signal came:", "");
