@@ -70,11 +70,7 @@ fn time_one<R: Print + Eprint + Clock + AllocGlobal>(
 
 /// The sum of what the readers lost.
 fn total(found: &[u64]) -> u64 {
-    let mut sum: u64 = 0;
-    'readers: for lost in found {
-        sum = sum.saturating_add(*lost);
-    }
-    sum
+    found.iter().fold(0, |sum, lost| sum.saturating_add(*lost))
 }
 
 /// Times the queries of four readers at once.

@@ -67,46 +67,42 @@ pub fn is_answer(alloc: Global, query: &Query, text: &str) -> bool {
     }
 }
 
-/// Makes each query once, and returns the number of wrong answers.
-pub fn ask_each(alloc: Global, reader: &mut Lookups, queries: &[Query]) -> u64 {
-    let mut wrong: u64 = 0;
-    'queries: for query in queries {
-        let right = match reader.ask(alloc, query) {
-            Ok((_, text)) => is_answer(alloc, query, &text),
-            Err(_) => false,
-        };
-        if !right {
-            wrong = wrong.saturating_add(1);
-        }
-    }
-    wrong
-}
-
-/// Makes each query `rounds` times, and returns how many got no answer.
-pub fn ask_all(alloc: Global, reader: &mut Lookups, queries: &[Query], rounds: u32) -> u64 {
+/// Makes each query `rounds` times by `ask`, and returns how often that was false.
+fn lost_by<F: FnMut(&Query) -> bool>(queries: &[Query], rounds: u32, mut ask: F) -> u64
+    requires { (f : _) (x : _) → F.pre f x }
+{
     let mut lost: u64 = 0;
     'rounds: for _ in 0..rounds {
         'queries: for query in queries {
-            if reader.ask(alloc, query).is_err() {
+            if !ask(query) {
                 lost = lost.saturating_add(1);
             }
         }
     }
     lost
+}
+
+/// Makes each query once, and returns the number of wrong answers.
+pub fn ask_each(alloc: Global, reader: &mut Lookups, queries: &[Query]) -> u64 {
+    lost_by(queries, 1, |query| match reader.ask(alloc, query) {
+        Ok((_, text)) => is_answer(alloc, query, &text),
+        Err(_) => false,
+    })
+}
+
+/// Makes each query `rounds` times, and returns how many got no answer.
+pub fn ask_all(alloc: Global, reader: &mut Lookups, queries: &[Query], rounds: u32) -> u64 {
+    lost_by(queries, rounds, |query| reader.ask(alloc, query).is_ok())
 }
 
 /// Like `ask_all`, with all answers written into one `String`.
 pub fn ask_all_into(alloc: Global, reader: &mut Lookups, queries: &[Query], rounds: u32) -> u64 {
     let mut text = String::new(alloc);
-    let mut lost: u64 = 0;
-    'rounds: for _ in 0..rounds {
-        'queries: for query in queries {
-            if reader.ask_into(query, &mut text).is_err() {
-                lost = lost.saturating_add(1);
-            }
-        }
-    }
-    lost
+    lost_by(
+        queries,
+        rounds,
+        |query| reader.ask_into(query, &mut text).is_ok(),
+    )
 }
 
 /// Makes each query once, and keeps the answers. Returns how many queries got none.
@@ -124,20 +120,14 @@ pub fn keep_all(alloc: Global, reader: &mut Lookups, queries: &[Query]) -> u64 {
     queries.len().abs_diff(answers.len()) as u64
 }
 
-/// Enters for each query and looks its text up without a copy. Returns the number of empty texts.
+/// Enters for each query and looks its text up without a copy. Returns how many were empty or not entered for.
 pub fn look_all(reader: &mut Lookups, queries: &[Query], rounds: u32) -> u64 {
-    let mut lost: u64 = 0;
-    'rounds: for _ in 0..rounds {
-        'queries: for query in queries {
-            let Ok(pinned) = reader.enter() else {
-                return u64::MAX;
-            };
-            let found = !pinned.look(query).is_empty();
-            pinned.leave();
-            if !found {
-                lost = lost.saturating_add(1);
-            }
-        }
-    }
-    lost
+    lost_by(queries, rounds, |query| {
+        let Ok(pinned) = reader.enter() else {
+            return false;
+        };
+        let found = !pinned.look(query).is_empty();
+        pinned.leave();
+        found
+    })
 }

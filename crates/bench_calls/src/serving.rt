@@ -93,22 +93,18 @@ pub fn desks_of(
 
 /// The number of queries without a right answer.
 fn wrong_answers(alloc: Global, queries: &[Query], answers: &[Answer]) -> u64 {
-    let mut wrong = queries.len().abs_diff(answers.len()) as u64;
-    'answers: for (query, answer) in queries.iter().zip(answers) {
-        if !is_answer(alloc, query, &answer.text) {
-            wrong = wrong.saturating_add(1);
-        }
-    }
-    wrong
+    let pairs = queries.iter().zip(answers);
+    let wrong = pairs.filter(|(query, answer)| !is_answer(alloc, query, &answer.text));
+    let missing = queries.len().abs_diff(answers.len());
+    missing.saturating_add(wrong.count()) as u64
 }
 
 /// The number of queries of all desks without a right answer.
 fn all_wrong_answers(alloc: Global, desks: &[Desk]) -> u64 {
-    let mut wrong: u64 = 0;
-    'desks: for desk in desks {
-        wrong = wrong.saturating_add(wrong_answers(alloc, &desk.queries, &desk.answers));
-    }
-    wrong
+    let wrong = desks
+        .iter()
+        .map(|desk| wrong_answers(alloc, &desk.queries, &desk.answers));
+    wrong.fold(0, u64::saturating_add)
 }
 
 /// Prints how many answers went wrong, and how long each query took.

@@ -11,33 +11,36 @@ use std::sync::atomic::AtomicBool;
 use std::sync::atomic::Ordering::SeqCst;
 use std::thread::{Threads, join, map_vec};
 
-/// What a reader counted.
-#[derive(Clone, Copy)]
-struct Counts {
-    entries: u64,
-    /// Entries whose version was below the one before.
-    fallen: u64,
-    /// Texts of another version than their entry's.
-    mixed: u64,
-    /// Calls that gave no entry.
-    closed: u64,
+/// What was counted.
+#[derive(Clone, Copy, Default)]
+pub struct Counts {
+    pub answers: u64,
+    /// Texts of another version than their answer's.
+    pub mixed: u64,
+    /// Answers whose version was below the one before.
+    pub fallen: u64,
+    /// Answers and outcomes that are missing, and entries and jobs that were refused.
+    pub lost: u64,
 }
-
-/// What a reader counted before its first entry.
-const NOTHING: Counts = Counts {
-    entries: 0,
-    fallen: 0,
-    mixed: 0,
-    closed: 0,
-};
 
 impl Counts {
     fn and(self, other: Counts) -> Counts {
         Counts {
-            entries: self.entries.saturating_add(other.entries),
-            fallen: self.fallen.saturating_add(other.fallen),
+            answers: self.answers.saturating_add(other.answers),
             mixed: self.mixed.saturating_add(other.mixed),
-            closed: self.closed.saturating_add(other.closed),
+            fallen: self.fallen.saturating_add(other.fallen),
+            lost: self.lost.saturating_add(other.lost),
+        }
+    }
+
+    /// Counts an answer of `version`, whose texts have these versions and which is behind an answer of `last`.
+    pub fn add(&mut self, version: Version, texts: &[Version], last: Version) {
+        self.answers = self.answers.saturating_add(1);
+        if texts.iter().any(|text| *text != version) {
+            self.mixed = self.mixed.saturating_add(1);
+        }
+        if version < last {
+            self.fallen = self.fallen.saturating_add(1);
         }
     }
 }
@@ -55,27 +58,21 @@ pub fn version_in(text: &str) -> Version {
 
 /// Enters until `stop` is set.
 fn read(reader: &mut Lookups, stop: &AtomicBool) -> Counts {
-    let mut counts = NOTHING;
+    let mut counts = Counts::default();
     let mut last = 0;
     'turns: for _ in 0..u64::MAX {
         if stop.load(SeqCst) {
             break;
         }
         let Ok(pinned) = reader.enter() else {
-            counts.closed = counts.closed.saturating_add(1);
+            counts.lost = counts.lost.saturating_add(1);
             continue;
         };
         let version = pinned.version();
         let shop = version_in(pinned.gettext("shop", "fr", "message 0"));
         let mail = version_in(pinned.gettext("mail", "fr", "message 0"));
         pinned.leave();
-        counts.entries = counts.entries.saturating_add(1);
-        if shop != version || mail != version {
-            counts.mixed = counts.mixed.saturating_add(1);
-        }
-        if version < last {
-            counts.fallen = counts.fallen.saturating_add(1);
-        }
+        counts.add(version, &[shop, mail], last);
         last = version;
     }
     counts
@@ -138,20 +135,16 @@ fn print_counts<R: Print + Eprint>(
     publishes: u64,
     all: &[Counts],
 ) -> io::Result<()> {
-    let mut counts = NOTHING;
-    'readers: for one in all {
-        counts = counts.and(*one);
-    }
     let Counts {
-        entries,
-        fallen,
+        answers,
         mixed,
-        closed,
-    } = counts;
+        fallen,
+        lost,
+    } = all.iter().fold(Counts::default(), |sum, one| sum.and(*one));
     println!(rt;
-        "{wrong} wrong publishes, {fallen} versions fell, {mixed} mixed texts, {closed} without an entry"
+        "{wrong} wrong publishes, {fallen} versions fell, {mixed} mixed texts, {lost} without an entry"
     )?;
-    eprintln!(rt; "{seconds} s: {entries} entries, {publishes} publishes")
+    eprintln!(rt; "{seconds} s: {answers} entries, {publishes} publishes")
 }
 
 /// Publishes and looks up for `seconds`, and prints what went wrong.

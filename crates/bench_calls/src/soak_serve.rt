@@ -4,7 +4,7 @@ ghost use Rattle.std.specs.Prelude.{◌≡◌, ◌≤◌, All, vec_len};
 
 use crate::messages::Asked;
 use crate::serving::{Open, desks_of, job_of};
-use crate::soak::{text_of, version_in};
+use crate::soak::{Counts, text_of, version_in};
 use crate::times::{is_within, now};
 use desks::{Answer, Desk, Job, Served, serve};
 use live_versions::{Lookups, Publisher, Version};
@@ -24,18 +24,6 @@ const ASKED: Asked = Asked {
     count: 10_000,
 };
 
-/// What was counted.
-#[derive(Clone, Copy)]
-struct Counts {
-    answers: u64,
-    /// Texts of another version than their answer's.
-    mixed: u64,
-    /// Answers whose version was below the one before.
-    fallen: u64,
-    /// Answers and outcomes that are missing, and jobs that were refused.
-    lost: u64,
-}
-
 /// Jobs whose texts are the versions after this one.
 fn jobs_of(alloc: Global, version: Version) -> Result<Vec<Job>, AllocError> {
     let mut jobs = Vec::new(alloc);
@@ -51,25 +39,18 @@ fn jobs_of(alloc: Global, version: Version) -> Result<Vec<Job>, AllocError> {
 fn count_answers(counts: &mut Counts, answers: &[Answer]) {
     let mut last = 0;
     'answers: for answer in answers {
-        counts.answers = counts.answers.saturating_add(1);
-        if version_in(&answer.text) != answer.version {
-            counts.mixed = counts.mixed.saturating_add(1);
-        }
-        if answer.version < last {
-            counts.fallen = counts.fallen.saturating_add(1);
-        }
+        counts.add(answer.version, &[version_in(&answer.text)], last);
         last = answer.version;
     }
 }
 
 /// Counts what a service answered, which began at this version.
 fn count_all(counts: &mut Counts, served: &Served, desks: &[Desk], version: Version) {
-    let mut accepted: u64 = 0;
-    'outcomes: for outcome in served.outcomes.iter() {
-        if outcome.is_ok() {
-            accepted = accepted.saturating_add(1);
-        }
-    }
+    let accepted = served
+        .outcomes
+        .iter()
+        .filter(|outcome| outcome.is_ok())
+        .count() as u64;
     let wanted = version.saturating_add(u64::from(JOBS));
     counts.lost = counts
         .lost
@@ -159,12 +140,7 @@ pub fn soak_serve<R: Print + Eprint + Threads + Wait + Clock + AllocGlobal + Syn
     requires book { All (λ l. l.book ≡ publisher.old.seen.book) readers.items }
     requires count { (1 ≤ vec_len readers) × (vec_len readers ≤ 16) }
 {
-    let mut counts = Counts {
-        answers: 0,
-        mixed: 0,
-        fallen: 0,
-        lost: 0,
-    };
+    let mut counts = Counts::default();
     let services = match desks_of(rt.alloc(), publisher, readers, ASKED) {
         Ok(mut desks) => serve_long(rt, publisher, &mut desks, seconds, &mut counts),
         Err(_) => 0,

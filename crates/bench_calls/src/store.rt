@@ -41,22 +41,11 @@ const BESIDES: &[(u32, u32, bool)] = &[
 /// How often each query is made: often if they are few, once if they are many.
 const ROUNDS: &[u32] = &[10, 1];
 
-/// The numbers of desks that are timed, and of the jobs of the publishing thread.
-const DESKS: &[(u32, u32)] = &[
-    (1, 0),
-    (1, JOBS),
-    (2, 0),
-    (2, JOBS),
-    (4, 0),
-    (4, JOBS),
-    (8, 0),
-    (8, JOBS),
-    (16, 0),
-    (16, JOBS),
-];
+/// The numbers of desks that are timed.
+const DESKS: &[u32] = &[1, 2, 4, 8, 16];
 
-/// The number of jobs, if there are any.
-const JOBS: u32 = 1_000;
+/// The numbers of jobs of the publishing thread.
+const JOBS: &[u32] = &[0, 1_000];
 
 /// What is done in one thread, by one reader or the publisher.
 #[derive(Clone, Copy)]
@@ -168,13 +157,15 @@ fn time_desks<R: Print + Eprint + Clock + Threads + Wait + AllocGlobal + Sync>(
     rt: &R,
     messages: u32,
 ) -> io::Result<()> {
-    'desks: for (desks, jobs) in DESKS {
-        let serving = Serving {
-            messages,
-            desks: *desks,
-            jobs: *jobs,
-        };
-        with_store(rt, Work::Serve(serving))?;
+    'desks: for desks in DESKS {
+        'jobs: for jobs in JOBS {
+            let serving = Serving {
+                messages,
+                desks: *desks,
+                jobs: *jobs,
+            };
+            with_store(rt, Work::Serve(serving))?;
+        }
     }
     Ok(())
 }
