@@ -1,9 +1,8 @@
--- The texts so far are those of the entries that have been read.
-use Rattle.catalogue.proofs.Kit.{◌≡◌, ℕ, ◌+◌, true, false, List, [], ◌∷◌, ◌++◌, length, map, sym, ap, ◌∙◌, inl, inr}
-use Rattle.catalogue.proofs.Kit.{arith, AllByRecursion, flat_map, append-nil, map-append, length-map, flat_map-cons}
-use Rattle.catalogue.proofs.Kit.{Refuses, kind_of, Outline, outline, outlines, outline_of, outlines_from}
-use Rattle.catalogue.proofs.Kit.{IsLawfulMessage, span_of, stored_bytes, HasGathered, Findings, Options, Draft, Span}
-use Rattle.std.proofs.lemmas.Grind.{flat_map-append}
+-- The drafts so far are those of the entries that have been read.
+use Rattle.catalogue.proofs.Kit.{◌≡◌, ℕ, ◌+◌, true, false, List, [], ◌∷◌, ◌++◌, length, sym, ap, ◌∙◌, inl, inr}
+use Rattle.catalogue.proofs.Kit.{arith, AllByRecursion, map-append, length-map, Refuses, kind_of, Outline, outline}
+use Rattle.catalogue.proofs.Kit.{outlines, outline_of, outlines_from, IsLawfulMessage, HasCollected, Findings, Options}
+use Rattle.catalogue.proofs.Kit.{Draft}
 use Rattle.po_text.specs.Entries as po
 use Rattle.po_text.specs.Outcome as outcome
 use Rattle.po_text.specs.Outcome.{IsReadable, body}
@@ -13,7 +12,6 @@ use Rattle.po_text.specs.declared.reader.EntryReader.{EntryReader}
 use Rattle.po_text.specs.declared.fault.PoKind.{PoKind}
 use Rattle.po_text.specs.declared.fault.PoKind.TheVariants as kinds
 use Rattle.po_checks.specs.Found.{HasFound, LooksAt}
-use Rattle.catalogue.specs.Spans.{AreTextsOf}
 use Rattle.catalogue.proofs.PoEntries.{message_lawful}
 use Rattle.catalogue.proofs.InOrder.{length-outlines_from}
 
@@ -33,72 +31,47 @@ pub drafts_are : (o : Options) (drafts : List Draft) (entries : List po.Entry) �
     ≡ outlines_from o 0 entries → length drafts ≡ length entries
 drafts_are o drafts entries e = sym (length-map drafts outline) ∙ ap length e ∙ length-outlines_from o 0 entries
 
--- ---- the texts grow
-
-texts_none : (o : Options) (texts : List ℕ) (spans : List Span) → texts ≡ [] → spans ≡ []
-    → AreTextsOf texts spans (outlines_from o 0 [])
-texts_none o texts spans none no_spans = record { texts_are = none; spans_are = no_spans }
-
-texts_more : (o : Options) (texts more : List ℕ) (spans longer : List Span) (span : Span) (es : List po.Entry)
-    (e : po.Entry) → AreTextsOf texts spans (outlines_from o 0 es) → more ≡ texts ++ stored_bytes (outline_of o 0 e)
-    → span
-    ≡ span_of (outline_of o 0 e) → longer ≡ spans ++ span ∷ []
-    → AreTextsOf more longer (outlines_from o 0 (es ++ e ∷ []))
-texts_more o texts more spans longer span es e pool added span_is pushed =
-    let rs = outlines_from o 0 es in
-    let r = outline_of o (0 + length es) e in
-    let all : outlines_from o 0 (es ++ e ∷ []) ≡ rs ++ r ∷ [] = rows_push o 0 es e in
-    let one : flat_map stored_bytes (r ∷ []) ≡ stored_bytes r = flat_map-cons stored_bytes r []
-    ∙ append-nil (stored_bytes r) in
-    record {
-      texts_are = added ∙ ap (λ (t : List ℕ). t ++ stored_bytes r) pool.texts_are
-          ∙ sym (ap (λ (t : List ℕ). flat_map stored_bytes rs ++ t) one)
-          ∙ sym (flat_map-append stored_bytes rs (r ∷ []))
-          ∙ sym (ap (flat_map stored_bytes) all);
-      spans_are = pushed ∙ ap (λ (ss : List Span). ss ++ span ∷ []) pool.spans_are
-          ∙ ap (λ (s : Span). map span_of rs ++ s ∷ []) span_is ∙ sym (map-append span_of rs (r ∷ []))
-          ∙ sym (ap (map span_of) all);
-    }
-
 -- ---- one entry after another
 
-pub record Collects (text : List ℕ) (o : Options) (reader : EntryReader) (texts : List ℕ) (spans : List Span)
+pub record Collects (text : List ℕ) (o : Options) (reader : EntryReader) (drafts : List Draft)
     (findings : Findings) : Type 0 where
   pub entries : List po.Entry
   pub read : HasRead (body text) entries reader
-  pub pool : AreTextsOf texts spans (outlines_from o 0 entries)
+  pub rows_are : outlines drafts ≡ outlines_from o 0 entries
   pub lawful : AllByRecursion IsLawfulMessage entries
   pub found : HasFound o entries findings
 
-pub collects_none : (text : List ℕ) (o : Options) (reader : EntryReader) (texts : List ℕ) (spans : List Span)
-    (findings : Findings) → HasRead (body text) [] reader → texts ≡ [] → spans ≡ [] → HasFound o [] findings
-    → Collects text o reader texts spans findings
-collects_none text o reader texts spans findings read none no_spans found = record
-    { entries = []; read = read; pool = texts_none o texts spans none no_spans; lawful = tt; found = found }
+pub collects_none : (text : List ℕ) (o : Options) (reader : EntryReader) (drafts : List Draft) (findings : Findings)
+    → HasRead (body text) [] reader → drafts ≡ [] → HasFound o [] findings → Collects text o reader drafts findings
+collects_none text o reader drafts findings read none found = record
+    { entries = []; read = read; rows_are = ap outlines none; lawful = tt; found = found }
 
-pub collects_more : (text : List ℕ) (o : Options) (reader next : EntryReader) (texts more : List ℕ)
-    (spans longer : List Span) (findings grown : Findings) (span : Span) (e : po.Entry)
-    → (c : Collects text o reader texts spans findings) → GoesOn true (body text) c.entries e next → IsLawfulTexts e
-    → more ≡ texts ++ stored_bytes (outline_of o 0 e) → span ≡ span_of (outline_of o 0 e) → longer ≡ spans ++ span ∷ []
-    → LooksAt o e findings grown → Collects text o next more longer grown
-collects_more text o reader next texts more spans longer findings grown span e c goes lawful added span_is pushed looks
-    = record {
+pub collects_more : (text : List ℕ) (o : Options) (reader next : EntryReader) (drafts longer : List Draft)
+    (findings grown : Findings) (draft : Draft) (number : ℕ) (e : po.Entry)
+    → (c : Collects text o reader drafts findings) → GoesOn true (body text) c.entries e next → IsLawfulTexts e
+    → number ≡ length drafts → longer ≡ drafts ++ draft ∷ [] → outline draft ≡ outline_of o number e
+    → LooksAt o e findings grown → Collects text o next longer grown
+collects_more text o reader next drafts longer findings grown draft number e c goes lawful counted pushed is looks =
+    let last : number ≡ 0 + length c.entries = omega (arith, counted, drafts_are o drafts c.entries c.rows_are) in
+    record {
       entries = c.entries ++ e ∷ [];
       read = goes.1;
-      pool = texts_more o texts more spans longer span c.entries e c.pool added span_is pushed;
+      rows_are = ap outlines pushed ∙ map-append outline drafts (draft ∷ [])
+          ∙ ap (λ (rs : List Outline). rs ++ outline draft ∷ []) c.rows_are
+          ∙ ap (λ (r : Outline). outlines_from o 0 c.entries ++ r ∷ []) (is ∙ ap (λ n. outline_of o n e) last)
+          ∙ sym (rows_push o 0 c.entries e);
       lawful = lawful_push c.entries e c.lawful (message_lawful e lawful goes.0);
       found = looks c.entries c.found;
     }
 
-pub collects_all : (text : List ℕ) (o : Options) (reader next : EntryReader) (texts : List ℕ) (spans : List Span)
-    (findings : Findings) (e : po.Entry) → IsReadable text → (c : Collects text o reader texts spans findings)
-    → GoesOn false (body text) c.entries e next → HasGathered text o texts spans findings
-collects_all text o reader next texts spans findings e readable c ends = record {
+pub collects_all : (text : List ℕ) (o : Options) (reader next : EntryReader) (drafts : List Draft)
+    (findings : Findings) (e : po.Entry) → IsReadable text → (c : Collects text o reader drafts findings)
+    → GoesOn false (body text) c.entries e next → HasCollected text o drafts findings
+collects_all text o reader next drafts findings e readable c ends = record {
   entries = c.entries;
   gives = record { readable = readable; reads = ends.0 };
-  texts_are = c.pool;
-  lawful =
-      c.lawful;
+  rows_are = c.rows_are;
+  lawful = c.lawful;
   found = c.found;
 }
 

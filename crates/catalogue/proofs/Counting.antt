@@ -10,8 +10,8 @@ use Rattle.po_text.specs.Entries as po
 use Rattle.po_checks.specs.Kept.{is_header, is_untranslated}
 use Rattle.catalogue.specs.Meaning.{is_fuzzy, is_translated, counted_entries}
 use Rattle.catalogue.specs.Drafts.{standing_of, same_standing}
-use Rattle.catalogue.specs.declared.body.Standing.{Standing}
-use Rattle.catalogue.specs.declared.body.Standing.TheVariants.{Header}
+use Rattle.catalogue.specs.declared.texts.Standing.{Standing}
+use Rattle.catalogue.specs.declared.texts.Standing.TheVariants.{Header}
 
 abbrev one_if : {X : Type 0} → (X → Bool) → X → ℕ
 one_if p x = cond (p x) 1 0
@@ -103,7 +103,7 @@ line_over_outlines (d ∷ ds) = of (is_kept_header (outline d)) (line_over_outli
     of true rest = refl
     of false rest = rest
 
-kept_texts_are : (b : Bool) (t : Kept) → is_some (if b then Some t else None) ≡ b
+pub kept_texts_are : (b : Bool) (t : Kept) → is_some (if b then Some t else None) ≡ b
 kept_texts_are true t = refl
 kept_texts_are false t = refl
 

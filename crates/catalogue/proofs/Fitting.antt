@@ -1,23 +1,20 @@
 -- A text within its size limit has a catalogue whose MO file is within its own.
-use Rattle.catalogue.proofs.Kit.{◌≡◌, ℕ, ◌+◌, ◌^◌, ◌<◌, ◌≤◌, Bool, true, false, List, [], ◌∷◌, length, Option, Some}
-use Rattle.catalogue.proofs.Kit.{None, refl, ap, ◌∙◌, arith, AllByRecursion, flat_map, sum_by, length-map}
-use Rattle.catalogue.proofs.Kit.{flat_map-cons, sum_by-cons, Entry, translation, pool, message_of, is_kept, Outline}
-use Rattle.catalogue.proofs.Kit.{outline_of, outlines_from, kept_entry, texts_of, span_of, stored_bytes, HasGathered}
-use Rattle.catalogue.proofs.Kit.{Span, Findings, Options, length-with_nul}
+use Rattle.catalogue.proofs.Kit.{◌≡◌, ℕ, ◌+◌, ◌≤◌, Bool, true, false, List, [], ◌∷◌, length, Option, Some}
+use Rattle.catalogue.proofs.Kit.{None, refl, ap, ◌∙◌, arith, AllByRecursion, sum_by}
+use Rattle.catalogue.proofs.Kit.{flat_map-cons, sum_by-cons, Entry, pool, message_of, is_kept, Outline}
+use Rattle.catalogue.proofs.Kit.{outline_of, outlines_from, kept_entry, Options, length-with_nul}
 use Rattle.std.proofs.Common.{length-append}
 use Rattle.std.specs.List.{cons_option}
 use Rattle.std.proofs.lemmas.List.Sorted.{sum_by-IsPermutation}
 use Rattle.po_text.specs.Entries as po
 use Rattle.po_text.specs.Outcome.{Gives}
-use Rattle.po_text.proofs.Sizes.{option_size, forms_size, entry_size, entries_size, gives_count, gives_size}
+use Rattle.po_text.proofs.Sizes.{option_size, forms_size, entry_size, entries_size, gives_size}
 use Rattle.mo_image.specs.Entry.{key_bytes, with_plural, original}
 use Rattle.mo_image.specs.MoFile.{with_nul, spelling, entry_size as size}
-use Rattle.catalogue.specs.Drafts.{texts_if_kept}
-use Rattle.catalogue.specs.Spans.{bytes_if_kept, kept_bytes, plural_bytes}
 use Rattle.mo_image.proofs.MoLengths.{joined_with_nul}
 use Rattle.mo_image.proofs.FileSizes.{file_size}
 use Rattle.mo_image.proofs.EntryParts.{some_form}
-use Rattle.catalogue.proofs.InOrder.{AreOrdered, length-outlines_from}
+use Rattle.catalogue.proofs.InOrder.{AreOrdered}
 use Rattle.catalogue.proofs.Listing.{Lawful, kept_is, left_out, map_of}
 
 -- ---- an entry in the file and in the text
@@ -98,75 +95,3 @@ fits o text entries rs gives ordered lawful =
           gives,
       gives.readable.size,
     )
-
--- ---- the texts of all entries
-
-plural_fits : (plural : Option (List ℕ)) → length (plural_bytes plural) ≤ option_size plural
-plural_fits None = omega arith
-plural_fits (Some plural) = omega arith
-
-kept_fits : (e : po.Entry) → Lawful e → length (kept_bytes (texts_of e)) ≤ option_size e.plural + forms_size e.forms
-kept_fits e lawful =
-    let t = ap length (joined_with_nul e.forms (some_form e.plural e.forms lawful.counted)) in
-    omega (
-      arith,
-      length-append (plural_bytes e.plural) (translation (message_of e)),
-      plural_fits e.plural,
-      t,
-      length-with_nul (translation (message_of e)),
-      pool_size e.forms,
-    )
-
-if_kept_fits : (o : Options) (e : po.Entry) → Lawful e → length (bytes_if_kept (texts_if_kept o e))
-    ≤ option_size e.plural + forms_size e.forms
-if_kept_fits o e lawful = of (is_kept o e) refl
-  where
-    of : (b : Bool) → is_kept o e ≡ b → length (bytes_if_kept (texts_if_kept o e))
-        ≤ option_size e.plural + forms_size e.forms
-    of true is = rw is (kept_fits e lawful)
-    of false is = rw is (omega arith)
-
-stored_fits : (o : Options) (k : ℕ) (e : po.Entry) → Lawful e → length (stored_bytes (outline_of o k e)) ≤ entry_size e
-stored_fits o k e lawful = omega (
-  arith,
-  length-append (key_bytes e.context e.id) (bytes_if_kept (texts_if_kept o e)),
-  key_size e.context e.id,
-  if_kept_fits o e lawful,
-)
-
-all_stored : (o : Options) (k : ℕ) (es : List po.Entry) → AllByRecursion Lawful es
-    → length (flat_map stored_bytes (outlines_from o k es)) ≤ entries_size es
-all_stored o k [] lawful = omega arith
-all_stored o k (e ∷ es) lawful =
-    let r = outline_of o k e in
-    let rs = outlines_from o (k + 1) es in
-    omega (
-      arith,
-      ap length (flat_map-cons stored_bytes r rs),
-      length-append (stored_bytes r) (flat_map stored_bytes rs),
-      stored_fits o k e lawful.0,
-      all_stored o (k + 1) es lawful.1,
-    )
-
--- their length fits in 32 bits
-pub texts_fit : (text : List ℕ) (o : Options) (texts : List ℕ) (spans : List Span) (found : Findings)
-    → HasGathered text o texts spans found → length texts < 2 ^ 32
-texts_fit text o texts spans found h = omega (
-  arith,
-  ap length h.texts_are.texts_are,
-  all_stored o 0 h.entries h.lawful,
-  gives_size text h.entries h.gives,
-  h.gives.readable.size,
-)
-
--- the number of their spans fits in 32 bits
-pub spans_fit : (text : List ℕ) (o : Options) (texts : List ℕ) (spans : List Span) (found : Findings)
-    → HasGathered text o texts spans found → length spans < 2 ^ 32
-spans_fit text o texts spans found h = omega (
-  arith,
-  ap length h.texts_are.spans_are,
-  length-map (outlines_from o 0 h.entries) span_of,
-  length-outlines_from o 0 h.entries,
-  gives_count text h.entries h.gives,
-  h.gives.readable.size,
-)

@@ -29,15 +29,13 @@ pub use Rattle.po_checks.specs.declared.fault.LoadKind.TheVariants.{BadEscape, B
 pub use Rattle.po_checks.specs.declared.fault.LoadKind.TheVariants.{NotUtf8, OpenString, TooLarge}
 pub use Rattle.po_checks.specs.declared.findings.Findings.{Findings}
 pub use Rattle.po_checks.specs.declared.options.Options.{Options}
-pub use Rattle.catalogue.specs.Body.{Kept}
+pub use Rattle.catalogue.specs.Shares.{Kept}
 pub use Rattle.catalogue.specs.Drafts.{FirstRepeat, IsFirstRepeat, IsLawfulMessage, IsRepeat, Outline, comes_before}
 pub use Rattle.catalogue.specs.Drafts.{counts_as, is_kept_header, kept_entry, outline, outline_of, outlines}
-pub use Rattle.catalogue.specs.Drafts.{outlines_from, texts_of}
+pub use Rattle.catalogue.specs.Drafts.{outlines_from, texts_of, HasCollected}
 pub use Rattle.catalogue.specs.Meaning.{IsMapOf, Means, Refuses}
 pub use Rattle.catalogue.specs.Messages.{message_entry}
 pub use Rattle.catalogue.specs.Sizes.{capped_number}
-pub use Rattle.catalogue.specs.Spans.{HasGathered, span_of, stored_bytes}
-pub use Rattle.catalogue.specs.declared.body.Standing.TheVariants.{Fuzzy, Translated, Untranslated}
+pub use Rattle.catalogue.specs.declared.texts.Standing.TheVariants.{Fuzzy, Translated, Untranslated}
 pub use Rattle.catalogue.specs.declared.compiler.Compiled.{Compiled}
 pub use Rattle.catalogue.specs.declared.drafts.Draft.{Draft}
-pub use Rattle.catalogue.specs.declared.spans.Span.{Span}

@@ -8,7 +8,6 @@ pub mod PoEntries
 pub mod Listing
 pub mod Fitting
 pub mod Collecting
-pub mod Lending
 pub mod Counting
 pub mod HeaderFound
 pub mod Compiling

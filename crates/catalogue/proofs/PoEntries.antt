@@ -1,11 +1,15 @@
 -- The entries of a PO text are lawful as entries of a catalogue.
-use Rattle.catalogue.proofs.Kit.{◌≡◌, ℕ, List, [], ◌∷◌, length, Option, Some, None, refl, arith, Contains, IfSome}
-use Rattle.catalogue.proofs.Kit.{AllByRecursion, IsText, IsLawfulEntry, message_of}
+use Rattle.catalogue.proofs.Kit.{◌≡◌, ℕ, List, [], ◌∷◌, ◌++◌, length, Option, Some, None, refl, ap, arith, Contains}
+use Rattle.catalogue.proofs.Kit.{IfSome, AllByRecursion, true, sym, subst, ◌∙◌, IsText, IsLawfulEntry}
+use Rattle.catalogue.proofs.Kit.{message_of, is_kept, translation, Kept, texts_of, Options}
 use Rattle.std.proofs.Common.{◌≢◌}
 use Rattle.po_text.specs.Spelling as spelling
 use Rattle.po_text.specs.Entries as po
 use Rattle.po_text.specs.Lawful.{IsLawfulTexts, IsLawfulIf, HasNoFourIf, HasItsForms}
 use Rattle.mo_image.specs.Entry.{LacksByte, IsKeyText, HasForms}
+use Rattle.mo_image.proofs.EntryParts.{cut-some}
+use Rattle.catalogue.specs.Drafts.{texts_if_kept}
+use Rattle.catalogue.specs.Shares.{joined_texts, parts_of}
 use Rattle.catalogue.proofs.Members.{has_head, has_tail}
 
 lacks_from : (byte : ℕ) (text : List ℕ) → ¬ Contains text byte → LacksByte byte text
@@ -53,3 +57,21 @@ message_lawful e texts forms = record {
   forms = form_texts e.forms texts.forms;
   counted = forms_counted e.plural e.forms forms.some forms.one;
 }
+
+-- ---- the texts that are kept of an entry
+
+-- a plural and the forms behind it are cut where they were joined
+pub joined_again : (plural forms : List ℕ) → spelling.IsLawful plural → joined_texts (plural ++ 0 ∷ forms)
+    ≡ (Some plural, forms)
+joined_again plural forms lawful = ap (parts_of (plural ++ 0 ∷ forms))
+    (cut-some 0 plural forms (lacks_from 0 plural lawful.no_nul))
+
+pub kept_plural : (o : Options) (e : po.Entry) (plural joined : List ℕ) → is_kept o e ≡ true → Some plural ≡ e.plural
+    → IsLawfulIf e.plural → joined ≡ plural ++ 0 ∷ translation (message_of e)
+    → Some (joined_texts joined) ≡ texts_if_kept o e
+kept_plural o e plural joined kept is lawful joined_is =
+    let forms : List ℕ = translation (message_of e) in
+    let one : spelling.IsLawful plural = subst IsLawfulIf (sym is) lawful in
+    let texts : joined_texts joined ≡ texts_of e = ap joined_texts joined_is ∙ joined_again plural forms one
+    ∙ ap (λ (p : Option (List ℕ)). (p, forms)) is in
+    rw kept (ap (λ (t : Kept). Some t) texts)

@@ -12,7 +12,6 @@ use Rattle.std.proofs.lemmas.List.Elements.{All-nil, All-cons, filter_passes, fi
 use Rattle.std.proofs.lemmas.List.Elements.{Contains-append_left, Contains-append_right, Contains-push_cases}
 use Rattle.std.proofs.lemmas.List.Quantifiers.{all_pairs_push}
 use Rattle.po_text.specs.Entries as po
-use Rattle.po_text.specs.Outcome as outcome
 use Rattle.po_text.proofs.SomeOutcome.{some_outcome}
 use Rattle.catalogue.specs.Meaning.{stats_of, missing_of}
 use Rattle.po_checks.specs.Fails.{rank}

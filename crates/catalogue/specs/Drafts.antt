@@ -16,10 +16,10 @@ use Rattle.po_checks.specs.Kept.{message_of, key_of, is_header, is_untranslated,
 use Rattle.po_checks.specs.Found.{HasFound}
 use Rattle.po_checks.specs.declared.findings.Findings.{Findings}
 use Rattle.po_checks.specs.declared.options.Options.{Options}
-use Rattle.catalogue.specs.Body.{Kept}
+use Rattle.catalogue.specs.Shares.{Kept, texts_by}
 use Rattle.catalogue.specs.declared.drafts.Draft.{Draft}
-use Rattle.catalogue.specs.declared.body.Standing.{Standing}
-use Rattle.catalogue.specs.declared.body.Standing.TheVariants.{Header, Untranslated, Fuzzy, Translated}
+use Rattle.catalogue.specs.declared.texts.Standing.{Standing}
+use Rattle.catalogue.specs.declared.texts.Standing.TheVariants.{Header, Untranslated, Fuzzy, Translated}
 
 -- an entry by its index in the PO text, its line, its key, how it counts, and what is kept of it
 pub record Outline : Type 0 where
@@ -34,8 +34,8 @@ outline d = record {
   number = d.number;
   line = d.line;
   key = d.key;
-  standing = d.body.standing;
-  texts = d.body.texts;
+  standing = d.standing;
+  texts = texts_by d.share d.kept.now;
 }
 
 abbrev pub outlines : List Draft → List Outline
@@ -87,7 +87,7 @@ entry_with key None = entry_from key None []
 entry_with key (Some t) = entry_from key t.0 t.1
 
 abbrev pub draft_entry : Draft → Entry
-draft_entry d = entry_with d.key d.body.texts
+draft_entry d = entry_with d.key (texts_by d.share d.kept.now)
 
 abbrev pub drafts_entries : List Draft → List Entry
 drafts_entries drafts = map draft_entry drafts

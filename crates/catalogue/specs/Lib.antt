@@ -12,9 +12,8 @@ pub mod Messages
 pub mod Meaning
 pub mod Value
 pub mod Laws
-pub mod Body
+pub mod Shares
 pub mod Drafts
-pub mod Spans
 pub mod Reading
 pub mod Sizes
 pub mod Accepted

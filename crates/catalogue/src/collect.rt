@@ -1,20 +1,20 @@
 //! Reads the entries of a PO text, in their order.
-ghost use Rattle.std.specs.Prelude.{◌≡◌, ◌⊎◌, ◌++◌, length, IfOk, IfErr, OnOk, string_bytes, option_map};
-ghost use Rattle.po_text.specs.Lawful.{IsLawfulTexts};
+ghost use Rattle.std.specs.Prelude.{◌≡◌, ◌⊎◌, ◌++◌, ◌∷◌, IfOk, IfErr, OnOk, string_bytes};
+ghost use Rattle.po_text.specs.Lawful.{HasItsForms, IsLawfulTexts};
 ghost use Rattle.mo_image.specs.Entry.{translation};
 ghost use Rattle.catalogue.specs.Meaning as Meaning;
-ghost use Rattle.po_checks.specs.Found.{LooksAt};
 ghost use Rattle.po_checks.specs.Kept.{is_kept, message_of};
 ghost use Rattle.catalogue.specs.Meaning.{Refuses};
 ghost use Rattle.catalogue.specs.Drafts as Drafts;
-ghost use Rattle.catalogue.specs.Drafts.{outline_of, texts_if_kept};
-ghost use Rattle.catalogue.specs.Spans.{bytes_if_kept, kept_bytes, plural_bytes, plural_if_kept, share_of};
-ghost use Rattle.catalogue.specs.Spans.{span_of, stored_bytes};
+ghost use Rattle.catalogue.specs.Drafts.{outline, outline_of, texts_if_kept};
+ghost use Rattle.catalogue.specs.Shares.{texts_by};
 ghost use Rattle.catalogue.specs.Reading.{IsReadOf};
 ghost use Rattle.po_checks.specs.Refusal.{out_of_memory};
 
-use crate::body::{Share, Standing};
-use crate::spans::Span;
+use crate::drafts::Draft;
+use crate::texts::{Share, Standing};
+use bumpalo::Bump;
+use byte_text::LongKey;
 use mo_image::{push_form, push_key};
 use po_checks::{Findings, LoadFault, Options, is_header, is_untranslated};
 use po_text::{EntryBuffer, open_text};
@@ -50,27 +50,21 @@ fn is_kept_as(standing: Standing, entry: &EntryBuffer, options: Options) -> bool
     }
 }
 
-/// Appends the entry's key, and returns its length in bytes.
-fn add_key(texts: &mut String, entry: &EntryBuffer) -> Result<usize, AllocError>
-    ensures added { OnOk result (string_bytes texts.new ≡ string_bytes texts.old ++ Meaning.key_of entry.now) }
-    ensures len { IfOk result (λ len. len ≡ length (Meaning.key_of entry.now)) }
+/// Copies the entry's key to the arena. A key with a context is joined in `scratch` first.
+fn key_in<'a>(
+    arena: &'a Bump,
+    scratch: &mut String,
+    entry: &EntryBuffer,
+) -> Result<&'a str, AllocError>
+    ensures { IfOk result (λ key. key.now ≡ Meaning.key_of entry.now) }
 {
-    let start = texts.len();
-    push_key(texts, entry.context(), entry.id())?;
-    Ok(texts.len() - start)
-}
-
-/// Appends the plural, if there is one, and returns its length in bytes.
-fn add_plural(texts: &mut String, entry: &EntryBuffer) -> Result<Option<usize>, AllocError>
-    ensures added { OnOk result (string_bytes texts.new ≡ string_bytes texts.old ++ plural_bytes entry.now.plural) }
-    ensures len { IfOk result (λ len. len ≡ option_map length entry.now.plural) }
-{
-    match entry.plural() {
-        Some(plural) => {
-            texts.push_str(plural)?;
-            Ok(Some(plural.len()))
+    match entry.context() {
+        Some(context) => {
+            scratch.clear();
+            push_key(scratch, Some(context), entry.id())?;
+            arena.try_alloc_str(scratch)
         }
-        None => Ok(None),
+        None => arena.try_alloc_str(entry.id()),
     }
 }
 
@@ -84,104 +78,97 @@ fn add_forms(texts: &mut String, entry: &EntryBuffer) -> Result<(), AllocError>
     Ok(())
 }
 
-/// Appends what a catalogue keeps of an entry besides its key, and returns the length of the plural, if there is one.
-fn add_kept(texts: &mut String, entry: &EntryBuffer) -> Result<Option<usize>, AllocError>
-    ensures added { OnOk result (string_bytes texts.new ≡ string_bytes texts.old
-        ++ kept_bytes (Drafts.texts_of entry.now)) }
-    ensures plural { IfOk result (λ len. len ≡ option_map length entry.now.plural) }
+/// Copies the plural and the forms, joined by NULs in `scratch`, to the arena.
+fn plural_in<'a>(
+    arena: &'a Bump,
+    scratch: &mut String,
+    plural: &str,
+    entry: &EntryBuffer,
+) -> Result<&'a str, AllocError>
+    ensures { IfOk result (λ joined. joined.now ≡ plural.now ++ 0 ∷ translation (message_of entry.now)) }
 {
-    let plural = add_plural(texts, entry)?;
-    add_forms(texts, entry)?;
-    Ok(plural)
+    scratch.clear();
+    scratch.push_str(plural)?;
+    scratch.push('\0')?;
+    add_forms(scratch, entry)?;
+    arena.try_alloc_str(scratch)
 }
 
-/// Appends what a catalogue keeps of an entry that counts like this, besides its key, if the entry is kept at all.
-/// Returns what this is, and the length of the plural.
-fn add_if_kept(
-    texts: &mut String,
+/// Copies what is kept of an entry besides its key to the arena, for an entry that counts like this.
+fn kept_in<'a>(
+    arena: &'a Bump,
+    scratch: &mut String,
     entry: &EntryBuffer,
     options: Options,
     standing: Standing,
-) -> Result<(Share, usize), AllocError>
-    requires { standing ≡ Drafts.standing_of entry.now }
-    ensures added { OnOk result (string_bytes texts.new ≡ string_bytes texts.old
-        ++ bytes_if_kept (texts_if_kept options entry.now)) }
-    ensures share { IfOk result (λ kept. kept.0 ≡ share_of (texts_if_kept options entry.now)) }
-    ensures plural { IfOk result (λ kept. kept.1 ≡ length (plural_if_kept (texts_if_kept options entry.now))) }
+) -> Result<(Share, &'a str), AllocError>
+    requires lawful { IsLawfulTexts entry.now }
+    requires forms { HasItsForms entry.now }
+    requires standing { standing ≡ Drafts.standing_of entry.now }
+    ensures { IfOk result (λ kept. texts_by kept.0 kept.1.now ≡ texts_if_kept options entry.now) }
 {
     if !is_kept_as(standing, entry, options) {
-        return Ok((Share::Dropped, 0));
+        return Ok((Share::Dropped, ""));
     }
-    match add_kept(texts, entry)? {
-        Some(plural) => Ok((Share::Plural, plural)),
-        None => Ok((Share::Plain, 0)),
+    match entry.plural() {
+        Some(plural) => Ok((Share::Plural, plural_in(arena, scratch, plural, entry)?)),
+        None => Ok((Share::Plain, arena.try_alloc_str(entry.form(0))?)),
     }
 }
 
-/// Appends the texts of an entry, and returns their span.
-fn add_entry(texts: &mut String, entry: &EntryBuffer, options: Options) -> Result<Span, AllocError>
+/// Copies the texts of the entry with this index to the arena, and returns its draft.
+fn draft_in<'a>(
+    arena: &'a Bump,
+    scratch: &mut String,
+    entry: &EntryBuffer,
+    options: Options,
+    number: usize,
+) -> Result<Draft<'a>, AllocError>
+    requires { HasItsForms entry.now }
     ensures lawful { OnOk result (IsLawfulTexts entry.now) }
-    ensures added { OnOk result (string_bytes texts.new ≡ string_bytes texts.old
-        ++ stored_bytes (outline_of options 0 entry.now)) }
-    ensures span { IfOk result (λ span. span ≡ span_of (outline_of options 0 entry.now)) }
+    ensures draft { IfOk result (λ draft. outline draft ≡ outline_of options number entry.now) }
 {
     let standing = standing_of(entry);
-    let key = add_key(texts, entry)?;
-    let start = texts.len();
-    let (share, plural) = add_if_kept(texts, entry, options, standing)?;
-    Ok(Span {
+    let key = LongKey::new(key_in(arena, scratch, entry)?);
+    let (share, kept) = kept_in(arena, scratch, entry, options, standing)?;
+    Ok(Draft {
         key,
-        kept: texts.len() - start,
-        plural,
+        kept,
+        number,
         line: entry.line(),
         share,
         standing,
     })
 }
 
-/// Checks one more entry, of which this is kept.
-fn look_at(
-    findings: &mut Findings,
-    alloc: Global,
-    entry: &EntryBuffer,
-    options: Options,
-    share: Share,
-) -> Result<(), AllocError>
-    requires { share ≡ share_of (texts_if_kept options entry.now) }
-    ensures { OnOk result (LooksAt options entry.now findings.old findings.new) }
-{
-    findings.look_at_if(share != Share::Dropped, alloc, entry, options)
-}
-
 /// What was read of a PO text.
 #[derive(Drop)]
-pub(crate) struct Collected {
-    /// The texts of the entries one after another: each key, and for an entry that is kept its plural and its forms.
-    pub(crate) texts: String,
-    /// The spans of the entries, in the order of the PO text.
-    pub(crate) spans: Vec<Span>,
+pub(crate) struct Collected<'a> {
+    /// The entries, in the order of the PO text. Their texts are in an arena.
+    pub(crate) drafts: Vec<Draft<'a>>,
     /// What the checks found.
     pub(crate) findings: Findings,
 }
 
-/// Reads and checks the entries of a PO text.
-pub(crate) fn collect(alloc: Global, text: &[u8], options: Options) -> Result<Collected, LoadFault>
+/// Reads and checks the entries of a PO text, and copies their texts to the arena.
+pub(crate) fn collect<'a>(
+    alloc: Global,
+    arena: &'a Bump,
+    text: &[u8],
+    options: Options,
+) -> Result<Collected<'a>, LoadFault>
     ensures ok { IfOk result (IsReadOf text.now options) }
     ensures err { IfErr result (λ fault. (fault ≡ out_of_memory) ⊎ Refuses text.now options fault.kind fault.line) }
 {
     let mut reader = open_text(alloc, text)?;
     let mut entry = EntryBuffer::new(alloc);
-    let mut texts = String::new(alloc);
-    let mut spans = Vec::new(alloc);
+    let mut scratch = String::new(alloc);
+    let mut drafts = Vec::new(alloc);
     let mut findings = Findings::new();
     'entries: while reader.next_entry(&mut entry)? {
-        let span = add_entry(&mut texts, &entry, options)?;
-        look_at(&mut findings, alloc, &entry, options, span.share)?;
-        spans.push(span)?;
+        let draft = draft_in(arena, &mut scratch, &entry, options, drafts.len())?;
+        findings.look_at_if(draft.is_kept(), alloc, &entry, options)?;
+        drafts.push(draft)?;
     }
-    Ok(Collected {
-        texts,
-        spans,
-        findings,
-    })
+    Ok(Collected { drafts, findings })
 }

@@ -9,17 +9,16 @@ ghost use Rattle.catalogue.specs.Meaning.{lacking_fields, none_missing, Means, R
 ghost use Rattle.po_checks.specs.Refusal.{out_of_memory};
 
 use crate::Catalogue;
-use crate::body::Standing;
 use crate::collect::{Collected, collect};
 use crate::drafts::{
     Draft, KeptDrafts, counts_as, first_repeat, header_line, header_text, keep, sort,
 };
-use crate::spans::{Span, lend};
+use crate::texts::Standing;
+use bumpalo::Bump;
 use mo_image::{HEADER_LEN, ROW_LEN};
 use po_checks::{LoadFault, LoadKind, Options};
 use po_header::{has_accepted_charset, missing_fields, rule_in};
 use std::alloc::Global;
-use std::mem::size_of;
 
 /// Counts of the entries of a PO text other than its header, kept or not.
 #[derive(Clone, Copy, Debug, PartialEq, Eq)]
@@ -103,7 +102,8 @@ pub fn compile(alloc: Global, text: &[u8], options: Options) -> Result<Compiled,
     ensures ok { IfOk result (Means text.now options) }
     ensures err { IfErr result (λ fault. (fault ≡ out_of_memory) ⊎ Refuses text.now options fault.kind fault.line) }
 {
-    let collected = collect(alloc, text, options)?;
+    let arena = Bump::new(alloc);
+    let collected = collect(alloc, &arena, text, options)?;
     compile_collected(alloc, collected, options, Vec::new(alloc))
 }
 
@@ -114,23 +114,21 @@ pub fn compile_owned(alloc: Global, text: Vec<u8>, options: Options) -> Result<C
     ensures ok { IfOk result (Means text.items options) }
     ensures err { IfErr result (λ fault. (fault ≡ out_of_memory) ⊎ Refuses text.items options fault.kind fault.line) }
 {
-    let collected = collect(alloc, text.as_slice(), options)?;
-    let memory = room_over(text, kept_room(&collected));
+    let arena = Bump::new(alloc);
+    let collected = collect(alloc, &arena, text.as_slice(), options)?;
+    let memory = room_over(text, file_room(&collected.drafts));
     compile_collected(alloc, collected, options, memory)
 }
 
-/// The number of bytes of a text's memory to keep for the MO file: the most that the file can take, less the bytes of
-/// the spans. The file has a header, and for each entry two rows and a NUL after the key, the plural and the forms. The
-/// spans are freed before the memory grows to the file's size, so this doesn't raise the peak.
-fn kept_room(collected: &Collected) -> usize {
-    let count = collected.spans.len();
-    let entries = count.saturating_mul(2 * ROW_LEN + 3);
-    let most = collected
-        .texts
-        .len()
-        .saturating_add(entries)
-        .saturating_add(HEADER_LEN);
-    most.saturating_sub(count.saturating_mul(size_of::<Span>()))
+/// The most bytes that the MO file of these drafts can take: a header, and for each entry two rows, its texts, and two
+/// NULs, after its original and after its translation.
+fn file_room(drafts: &[Draft<'_>]) -> usize {
+    let rows = drafts.len().saturating_mul(2 * ROW_LEN + 2);
+    drafts
+        .iter()
+        .fold(rows.saturating_add(HEADER_LEN), |room: usize, draft| {
+            room.saturating_add(draft.texts_len())
+        })
 }
 
 /// Empties a text and keeps at most `most` bytes of its memory.
@@ -144,22 +142,20 @@ fn room_over(text: Vec<u8>, most: usize) -> Vec<u8> {
 /// Turns the collected entries into a compiled catalogue, with its MO file in `memory`.
 fn compile_collected(
     alloc: Global,
-    collected: Collected,
+    collected: Collected<'_>,
     options: Options,
     memory: Vec<u8>,
 ) -> Result<Compiled, LoadFault>
     requires { (text : List ℕ) × IsReadOf text options collected }
     ensures ok { IfOk result (λ compiled. (text : List ℕ) →
-        IsReadOf text options collected → Means text options compiled) }
-    ensures err { IfErr result (λ fault. (text : List ℕ) → IsReadOf text options collected →
+        IsReadOf text options collected.entry → Means text options compiled) }
+    ensures err { IfErr result (λ fault. (text : List ℕ) → IsReadOf text options collected.entry →
         (fault ≡ out_of_memory) ⊎ Refuses text options fault.kind fault.line) }
 {
     let Collected {
-        texts,
-        spans,
+        mut drafts,
         findings,
     } = collected;
-    let mut drafts = lend(alloc, texts.as_str(), spans)?;
     let stats = stats_of(&drafts);
     let header_line = header_line(&drafts);
     let header = header_text(&drafts);

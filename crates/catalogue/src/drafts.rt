@@ -7,7 +7,7 @@ ghost use Rattle.catalogue.specs.Drafts.{comes_before, drafts_entries, header_te
 ghost use Rattle.catalogue.specs.Drafts.{outline_cmp, outline_if, outline_text, outlines, FirstRepeat};
 ghost use Rattle.catalogue.specs.Drafts as Drafts;
 
-use crate::body::{Body, Standing};
+use crate::texts::{Share, Standing, Texts, split_kept};
 use byte_text::LongKey;
 use mo_image::{EntryList, EntryStrings, split_form};
 use std::cmp::Ordering;
@@ -18,27 +18,55 @@ use std::mem::size_of;
 pub(crate) struct Draft<'a> {
     /// The entry's key.
     pub(crate) key: LongKey<'a>,
-    /// How the entry counts, and what is kept of it.
-    pub(crate) body: Body<'a>,
+    /// What is kept of the entry besides its key: its forms, with NUL between them, and before them its plural and a
+    /// NUL, if it has one.
+    pub(crate) kept: &'a str,
     /// The index of the entry in the PO text.
-    pub(crate) number: u32,
+    pub(crate) number: usize,
     pub(crate) line: u32,
+    pub(crate) share: Share,
+    pub(crate) standing: Standing,
 }
 
 // A larger draft makes the compiler slower.
 const _: () = prove!(size_of::<Draft<'_>>() == 64);
 
+impl<'a> Draft<'a> {
+    ghost use Rattle.std.specs.Prelude.{is_some};
+    ghost use Rattle.catalogue.specs.Shares.{kept_texts};
+
+    /// Whether the entry is kept.
+    pub(crate) fn is_kept(&self) -> bool
+        ensures { result ≡ is_some (outline self.now).texts }
+    {
+        self.share != Share::Dropped
+    }
+
+    /// The texts that are kept besides the key, or `None` if the entry isn't kept.
+    #[inline(always)]
+    fn texts(&self) -> Option<Texts<'a>>
+        ensures { option_map kept_texts result ≡ (outline self.now).texts }
+    {
+        split_kept(self.share, self.kept)
+    }
+
+    /// The length in bytes of the key and of what is kept besides it.
+    pub(crate) fn texts_len(&self) -> usize {
+        self.key.as_str().len().saturating_add(self.kept.len())
+    }
+}
+
 /// Whether a draft has this standing.
 pub(crate) fn counts_as(draft: &Draft<'_>, standing: Standing) -> bool
     ensures { result ≡ Drafts.counts_as standing (outline draft.now) }
 {
-    draft.body.standing() == standing
+    draft.standing == standing
 }
 
 fn is_kept_header(draft: &Draft<'_>) -> bool
     ensures { result ≡ Drafts.is_kept_header (outline draft.now) }
 {
-    counts_as(draft, Standing::Header) && draft.body.is_kept()
+    counts_as(draft, Standing::Header) && draft.is_kept()
 }
 
 fn kept_header<'d, 'a>(drafts: &'d [Draft<'a>]) -> Option<&'d Draft<'a>>
@@ -61,7 +89,7 @@ pub(crate) fn header_line(drafts: &[Draft<'_>]) -> u32
 fn first_form_of<'a>(draft: &Draft<'a>) -> Option<&'a str>
     ensures { option_map (λ text. text.now) result ≡ outline_text (outline draft.now) }
 {
-    let texts = draft.body.texts()?;
+    let texts = draft.texts()?;
     Some(split_form(texts.translation).0)
 }
 
@@ -132,7 +160,7 @@ pub(crate) fn first_repeat<'d, 'a>(drafts: &'d [Draft<'a>]) -> Option<&'d Draft<
 pub(crate) fn keep(drafts: &mut Vec<Draft<'_>>)
     ensures { drafts_entries drafts.new.items ≡ filter_map kept_entry (outlines drafts.old.items) }
 {
-    drafts.retain(|draft| draft.body.is_kept());
+    drafts.retain(|draft| draft.is_kept());
 }
 
 /// The drafts that are kept, as the list of entries that a catalogue is made of.
@@ -152,7 +180,7 @@ impl<'a> EntryList for KeptDrafts<'a> {
 
     fn strings_at(&self, i: usize) -> EntryStrings<'_> {
         let draft = &self.drafts[i];
-        match draft.body.texts() {
+        match draft.texts() {
             Some(texts) => EntryStrings::new(draft.key.as_str(), texts.plural, texts.translation),
             None => EntryStrings::new(draft.key.as_str(), None, ""),
         }

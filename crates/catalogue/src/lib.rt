@@ -5,7 +5,6 @@
 #![tactic(auto)]
 
 mod accepts;
-mod body;
 mod collect;
 mod compiler;
 mod drafts;
@@ -14,7 +13,7 @@ mod lookup;
 mod map;
 mod sizes;
 mod sorted;
-mod spans;
+mod texts;
 
 pub use compiler::{Compiled, Stats, compile, compile_owned};
 pub use entry_search::{AskedKey, NO_HINT, Steps};

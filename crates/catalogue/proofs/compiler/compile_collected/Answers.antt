@@ -1,34 +1,22 @@
 use Rattle.catalogue.proofs.Kit.{inr, sym, ◌∙◌, false≢true}
 use Rattle.po_header.specs.Rules.{rule_of}
 use Rattle.catalogue.proofs.Compiling.{few, refused, foreign, failed, lawful_map, map_rule, compiles}
-use Rattle.catalogue.proofs.Fitting.{spans_fit, texts_fit}
-use Rattle.catalogue.proofs.Lending.{lent, may_lend}
 use Rattle.catalogue.proofs.compiler.compile_collected.Goals as goal
 
-pub lend-requires-clause-len : goal.lend-requires-clause-len
-lend-requires-clause-len c = rw c.as_str.ensures.value (texts_fit _ _ _ _ _ c.requires.1)
-
-pub lend-requires-clause-count : goal.lend-requires-clause-count
-lend-requires-clause-count c = spans_fit _ _ _ _ _ c.requires.1
-
-pub lend-requires-clause-holds : goal.lend-requires-clause-holds
-lend-requires-clause-holds c = rw c.as_str.ensures.value (may_lend _ _ _ _ _ c.requires.1)
-
 pub stats_of-stats-requires : goal.stats_of-stats-requires
-stats_of-stats-requires c = rw c.deref.ensures.value (few _ _ _ _
-    (lent _ _ _ _ _ _ c.requires.1 (rw c.as_str.ensures.value at c.in_ok-drafts.ensures)))
+stats_of-stats-requires c = rw c.deref.ensures.value (few _ _ _ _ c.requires.1)
 
 pub returns-in-Some-clause-err : goal.returns-in-Some-clause-err
 returns-in-Some-clause-err c text read =
     inr (refused text c.args.options _ _ _ c.in-Some.draft.now
-    (lent _ _ _ _ _ _ read (rw c.as_str.ensures.value at c.in_ok-drafts.ensures))
+    read
     (record { same = c.sort.ensures.same; sorted = c.sort.ensures.sorted })
     (rw c.deref-4.ensures.value at c.in-Some.ensures))
 
 pub returns-then-not-is_accepted-clause-err : goal.returns-then-not-is_accepted-clause-err
 returns-then-not-is_accepted-clause-err c text read =
     inr (foreign text c.args.options _ _ _ c.header_text-header.result _
-    (lent _ _ _ _ _ _ read (rw c.as_str.ensures.value at c.in_ok-drafts.ensures))
+    read
     (record { same = c.sort.ensures.same; sorted = c.sort.ensures.sorted })
     (rw (c.deref-4.ensures.value, c.in_default.is) at c.first_repeat.ensures)
     (record {
@@ -42,7 +30,7 @@ pub returns-in-Some-fault-clause-err : goal.returns-in-Some-fault-clause-err
 returns-in-Some-fault-clause-err c text read =
     inr (failed text c.args.options _ _ c.args.collected.findings c.header_text-header.result
     c.header_line-header_line.result (rule_of c.in_ok-rule.rule) c.in-Some-fault.fault
-    (lent _ _ _ _ _ _ read (rw c.as_str.ensures.value at c.in_ok-drafts.ensures))
+    read
     (record { same = c.sort.ensures.same; sorted = c.sort.ensures.sorted })
     (rw (c.deref-4.ensures.value, c.in_default.is) at c.first_repeat.ensures)
     (record {
@@ -55,7 +43,7 @@ returns-in-Some-fault-clause-err c text read =
 pub from_list_over-requires-clause-lawful : goal.from_list_over-requires-clause-lawful
 from_list_over-requires-clause-lawful c =
     lawful_map c.requires.0 c.args.options _ _ _ c.header_text-header.result c.header_line-header_line.result _
-    (lent _ _ _ _ _ _ c.requires.1 (rw c.as_str.ensures.value at c.in_ok-drafts.ensures))
+    c.requires.1
     (record { same = c.sort.ensures.same; sorted = c.sort.ensures.sorted })
     (rw (c.deref-4.ensures.value, c.in_default.is) at c.first_repeat.ensures)
     (record {
@@ -69,7 +57,7 @@ pub from_list_over-requires-clause-rule : goal.from_list_over-requires-clause-ru
 from_list_over-requires-clause-rule c =
     map_rule c.requires.0 c.args.options _ _ _ c.header_text-header.result c.header_line-header_line.result
     (rule_of c.in_ok-rule.rule) _
-    (lent _ _ _ _ _ _ c.requires.1 (rw c.as_str.ensures.value at c.in_ok-drafts.ensures))
+    c.requires.1
     (record { same = c.sort.ensures.same; sorted = c.sort.ensures.sorted })
     (rw (c.deref-4.ensures.value, c.in_default.is) at c.first_repeat.ensures)
     (record {
@@ -84,7 +72,7 @@ returns-clause-ok c text read =
     let stats = rw c.deref.ensures.value at c.stats_of-stats.ensures in
     compiles text c.args.options _ _ c.args.collected.findings c.header_text-header.result
     (rule_of c.in_ok-rule.rule) _ _
-    (lent _ _ _ _ _ _ read (rw c.as_str.ensures.value at c.in_ok-drafts.ensures))
+    read
     (record { same = c.sort.ensures.same; sorted = c.sort.ensures.sorted })
     (rw (c.deref-4.ensures.value, c.in_default.is) at c.first_repeat.ensures)
     (record {

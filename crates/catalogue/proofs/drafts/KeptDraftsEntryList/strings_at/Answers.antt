@@ -1,5 +1,5 @@
 use Rattle.catalogue.proofs.Kit.{ℕ, List, Option, Some, ap, sym, ◌∙◌, Entry, Kept}
-use Rattle.catalogue.specs.Body.{kept_texts}
+use Rattle.catalogue.specs.Shares.{kept_texts}
 use Rattle.catalogue.specs.Drafts.{draft_entry, entry_with}
 use Rattle.mo_image.proofs.Lists.{image_at}
 use Rattle.catalogue.proofs.drafts.KeptDraftsEntryList.strings_at.Goals as goal
