@@ -5,7 +5,7 @@ use crate::languages::publish_languages;
 use crate::messages::{Asked, LANGUAGES, PLAIN, locale_of, po_text, queries};
 use crate::readers::is_answer;
 use crate::times::{now, since};
-use desks::{Answer, Desk, Gate, Job, Place, Source, serve};
+use desks::{Answer, Desk, Job, OpenGate, Source, serve};
 use live_set::Query;
 use live_versions::{Lookups, Publisher};
 use std::alloc::{AllocError, Global};
@@ -17,14 +17,6 @@ use std::time::Duration;
 
 /// The number of messages in a job's text.
 const JOB_MESSAGES: u32 = 10;
-
-/// A gate that holds nobody.
-#[derive(Drop)]
-pub struct Open;
-
-impl Gate for Open {
-    fn pass(&self, _place: Place, _index: u64) {}
-}
 
 /// What is served: the number of desks and of jobs, and of messages in each language.
 #[derive(Clone, Copy)]
@@ -140,7 +132,7 @@ fn run_desks<R: Print + Eprint + Clock + Threads + Wait + AllocGlobal + Sync>(
         return println!(rt; "out of memory");
     };
     let start = now(rt);
-    let served = serve(rt, rt.alloc(), publisher, desks, texts, &Open);
+    let served = serve(rt, rt.alloc(), publisher, desks, texts, &OpenGate);
     let taken = since(rt, start);
     match served {
         Ok(_) => print_serve(rt, desks, jobs, taken, queries),

@@ -3,10 +3,10 @@
 ghost use Rattle.std.specs.Prelude.{◌≡◌, ◌≤◌, All, vec_len};
 
 use crate::messages::Asked;
-use crate::serving::{Open, desks_of, job_of};
+use crate::serving::{desks_of, job_of};
 use crate::soak::{Counts, text_of, version_in};
 use crate::times::{is_within, now};
-use desks::{Answer, Desk, Job, Served, serve};
+use desks::{Answer, Desk, Job, OpenGate, Served, serve};
 use live_versions::{Lookups, Publisher, Version};
 use std::alloc::{AllocError, Global};
 use std::io;
@@ -81,7 +81,7 @@ fn serve_once<R: Threads + Wait + AllocGlobal + Sync>(
         counts.lost = counts.lost.saturating_add(1);
         return false;
     };
-    match serve(rt, rt.alloc(), publisher, desks, texts, &Open) {
+    match serve(rt, rt.alloc(), publisher, desks, texts, &OpenGate) {
         Ok(served) => count_all(counts, &served, desks, version),
         Err(_) => counts.lost = counts.lost.saturating_add(1),
     }

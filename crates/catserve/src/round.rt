@@ -5,19 +5,12 @@ ghost use Rattle.catserve.specs.Running.{AreReady, FailsToFinish, Finishes, Have
 
 use crate::asking::{any_asked, write_all};
 use crate::output::write_version;
-use desks::{Desk, Gate, Place, ServeFault, serve};
+use desks::{Desk, OpenGate, ServeFault, serve};
 use live_versions::Publisher;
 use script_text::ScriptKind;
 use std::alloc::Global;
 use std::sync::Wait;
 use std::thread::Threads;
-
-/// A gate that lets all pass.
-struct OpenGate;
-
-impl Gate for OpenGate {
-    fn pass(&self, _place: Place, _index: u64) {}
-}
 
 /// The fault of a service as an error of a script.
 fn kind_of(fault: ServeFault) -> ScriptKind

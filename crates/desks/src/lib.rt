@@ -14,7 +14,7 @@ mod settle;
 mod worker;
 
 pub use desk::{Answer, Desk, ServeFault};
-pub use gate::{Gate, Place};
+pub use gate::{Gate, OpenGate, Place};
 pub use job::{Accepted, Job, Source};
 pub use law::{one_end, one_history};
 pub use publish::load_job;

@@ -3,21 +3,13 @@ ghost use Rattle.std.specs.Prelude.{◌≡◌, ◌≤◌, All, IfOk, vec_len};
 
 use crate::store::{Words, load, print_short, print_state, publish, query};
 use crate::texts::{PLAIN, SALUT, TWICE};
-use desks::{Accepted, Answer, Desk, Gate, Job, Place, ServeFault, Served, Source, serve};
+use desks::{Accepted, Answer, Desk, Job, OpenGate, ServeFault, Served, Source, serve};
 use live_set::Query;
 use live_versions::{Lookups, Publisher, StoreFault, Version};
 use std::alloc::{AllocError, Global};
 use std::io;
 use std::sync::Wait;
 use std::thread::Threads;
-
-/// A gate that holds nobody.
-#[derive(Drop)]
-struct Open;
-
-impl Gate for Open {
-    fn pass(&self, _place: Place, _index: u64) {}
-}
 
 /// The jobs: the domain and the PO text of each French load.
 const JOBS: &[(&str, &str)] = &[("app", SALUT), ("app", TWICE), ("a b", SALUT)];
@@ -204,7 +196,7 @@ fn serve_desks<R: Threads + Wait + Print + AllocGlobal + Sync>(
     ensures count { vec_len desks.new ≡ vec_len desks.old }
 {
     let first = publisher.version();
-    let printed = match serve(rt, rt.alloc(), publisher, desks, jobs, &Open) {
+    let printed = match serve(rt, rt.alloc(), publisher, desks, jobs, &OpenGate) {
         Ok(served) => print_served(rt, words, &served, desks, first),
         Err(fault) => print_unserved(rt, words, fault),
     };

@@ -1,6 +1,6 @@
 //! Commands with their outcomes, and requests, as the tables of the tests have them.
 use catalogue::{LoadFault, LoadKind, Options, Stats};
-use desks::{Accepted, Gate, Job, Place, Source};
+use desks::{Accepted, Gate, Job, Source};
 use life::{Command, Life, LifeFault, Outcome, Reply, Request, run_life};
 use live_set::{Ask, Query};
 use live_versions::StoreFault;
@@ -225,14 +225,6 @@ pub(crate) fn push_requests(
         requests.push(request)?;
     }
     Ok(())
-}
-
-/// A gate that lets all pass.
-#[derive(Drop)]
-pub(crate) struct Open;
-
-impl Gate for Open {
-    fn pass(&self, _place: Place, _index: u64) {}
 }
 
 /// The life of a store with these commands and lists of requests (1 to 16 lists).

@@ -3,9 +3,9 @@
 //!
 //! Nothing of a life is kept: its steps and its queries are made again, from the same numbers, whenever the fold needs
 //! them.
-use crate::made::{Asked, DUPLICATE, Open, PLAIN, TWICE, Way, live, load_command, push_requests};
+use crate::made::{Asked, DUPLICATE, PLAIN, TWICE, Way, live, load_command, push_requests};
 use catalogue::Stats;
-use desks::Accepted;
+use desks::{Accepted, OpenGate};
 use life::{Client, Command, Outcome, Reply, Request};
 use live_versions::{StoreFault, Version};
 use std::alloc::{AllocError, Global};
@@ -387,7 +387,7 @@ fn is_right<R: Threads + Wait + Sync>(
     let readers = random.below(4).saturating_add(1);
     let asked = random;
     let lists = lists_of(alloc, &mut random, readers)?;
-    match live(rt, alloc, most, commands.as_slice(), lists, &Open) {
+    match live(rt, alloc, most, commands.as_slice(), lists, &OpenGate) {
         Ok(life) => Ok(
             fold.came_out(life.outcomes.as_slice())
                 && fold.answers_each(asked, readers, life.clients.as_slice()),

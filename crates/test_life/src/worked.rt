@@ -1,9 +1,9 @@
 //! Worked lives. The values were written by hand, and not taken from a run.
 use crate::made::{
-    Asked, DUPLICATE, HI, ONE, Open, Row, SALUT, Step, TWICE, came_out, commands_of, live,
-    push_requests, way_of,
+    Asked, DUPLICATE, HI, ONE, Row, SALUT, Step, TWICE, came_out, commands_of, live, push_requests,
+    way_of,
 };
-use desks::Accepted;
+use desks::{Accepted, OpenGate};
 use life::{Client, Outcome, Reply, Request};
 use live_versions::{StoreFault, Version};
 use mo_file::MoFault;
@@ -201,7 +201,14 @@ fn is_lived<R: Threads + Wait + Sync>(
 ) -> Result<bool, AllocError> {
     let commands = commands_of(alloc, worked.rows)?;
     let lists = lists_of(alloc, worked.readers, worked.asked)?;
-    match live(rt, alloc, worked.most, commands.as_slice(), lists, &Open) {
+    match live(
+        rt,
+        alloc,
+        worked.most,
+        commands.as_slice(),
+        lists,
+        &OpenGate,
+    ) {
         Ok(life) => Ok(
             came_out(life.outcomes.as_slice(), worked.rows)
                 && are_answered(life.clients.as_slice(), worked),

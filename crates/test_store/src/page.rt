@@ -2,7 +2,7 @@
 ghost use Rattle.std.specs.Prelude.{◌≡◌, ◌≤◌, All, IfOk, vec_len};
 
 use catalogue::Options;
-use desks::{Desk, Gate, Job, Place, ServeFault, Source, serve};
+use desks::{Desk, Job, OpenGate, ServeFault, Source, serve};
 use live_set::{Ask, Query};
 use live_versions::{Lookups, OpenFault, Publisher, StoreFault, Version, open_store};
 use std::alloc::{AllocError, Global};
@@ -135,14 +135,6 @@ fn job_of(alloc: Global) -> Result<Job, AllocError> {
     })
 }
 
-/// A gate that holds nobody.
-#[derive(Drop)]
-struct Open;
-
-impl Gate for Open {
-    fn pass(&self, _place: Place, _index: u64) {}
-}
-
 /// Answers the queries of all desks while the jobs are done, and returns the version at the end.
 fn serve_desks<R: Threads + Wait + AllocGlobal + Sync>(
     rt: &R,
@@ -156,7 +148,7 @@ fn serve_desks<R: Threads + Wait + AllocGlobal + Sync>(
     ensures again { All (λ desk. desk.reader.book ≡ publisher.new.seen.book) desks.new.items }
     ensures count { vec_len desks.new ≡ vec_len desks.old }
 {
-    let served = serve(rt, rt.alloc(), publisher, desks, jobs, &Open)?;
+    let served = serve(rt, rt.alloc(), publisher, desks, jobs, &OpenGate)?;
     Ok(served.version)
 }
 
