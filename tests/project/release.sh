@@ -180,6 +180,15 @@ if said=$(cd "$room/one" && tools/verify_release --as-built "$room/published/$na
 else
   failed 'the tarball and what comes with it: verified' "$said"
 fi
+# (what the other user packed has no crates for Rust, which are made here)
+mkdir "$room/fewer"
+cp "$room/another/folder/$build"/dist/* "$room/fewer" 2> /dev/null
+if said=$(cd "$room/one" && tools/verify_release --as-built "$room/fewer/$name.tar.gz" 2>&1) &&
+  grep -qx "kobdzila-$version${other:+-$machine}.spdx.json: every byte is the same" <<< "$said"; then
+  ok 'a release of fewer files than are made here: verified'
+else
+  failed 'a release of fewer files than are made here: verified' "$said"
+fi
 printf x >> "$room/published/$name.oci.tar"
 # remade SED FOLDER: the site, of which other tools say that they made it, or which has another page, in FOLDER
 remade() {
@@ -190,7 +199,7 @@ remade() {
   tar -czf "$2/$html.tar.gz" -C "$2" "$html"
 }
 remade 's/^Sphinx: .*/Sphinx: 7.2.6/' "$room/published"
-if said=$(cd "$room/one" && tools/verify_release --as-built "$room/published/$name.tar.gz" 2>&1); then
+if said=$(cd "$room/one" && PATH=$room/no_cargo:$PATH tools/verify_release --as-built "$room/published/$name.tar.gz" 2>&1); then
   failed 'what comes with the tarball: a changed file is found' 'it passed'
 elif grep -qx "$name.oci.tar: it differs" <<< "$said"; then
   ok 'what comes with the tarball: a changed file is found'
@@ -205,6 +214,9 @@ if [ -n "$other" ]; then
 elif ! cargo --version > /dev/null 2>&1; then
   skipped 'the crates for Rust' 'no cargo'
 else
+  says 'the list of what is inside: not compared where fewer files are made' \
+    "kobdzila-$version.spdx.json: not compared, since it names what isn't made here: kobdzila-$version.crate,kobdzila-sys-$version.crate" \
+    "$(grep -F spdx <<< "$said")"
   for folder in rust rust/kobdzila-sys; do
     crate=kobdzila${folder#rust}
     crate=${crate/\/kobdzila/}-$version
