@@ -3,7 +3,7 @@
 use std::collections::hash_map::RandomState;
 use std::collections::{HashMap, HashSet};
 use std::error::Error;
-use std::ffi::OsStr;
+use std::ffi::{OsStr, OsString};
 use std::fmt;
 use std::fs;
 use std::hash::{BuildHasher, Hash, Hasher};
@@ -68,6 +68,7 @@ const UNREPORTED: Duration = Duration::from_secs(1);
 /// A file that is refused is reported once; the translations loaded before stay. File errors never stop the thread, nor
 /// does a panic in your function. Dropping the watch stops it.
 #[derive(Debug)]
+#[must_use = "dropping a watch stops it"]
 pub struct Watch {
     looking: Arc<Mutex<Looking>>,
     end: UnixStream,
@@ -257,7 +258,6 @@ impl WatchOptions {
             store: Arc::clone(store),
             how: self,
             changes: changes.clone(),
-            folders: HashMap::new(),
             is_reported: true,
             writing: HashMap::new(),
             seen: HashMap::new(),
@@ -298,7 +298,7 @@ impl fmt::Debug for WatchOptions {
 /// # std::fs::create_dir_all(folder.join("fr/LC_MESSAGES"))?;
 /// # let store = std::sync::Arc::new(Store::new());
 /// std::fs::write(folder.join("fr/LC_MESSAGES/garden.po"), "msgid \"Winter\n")?;
-/// WatchOptions::new(&folder)
+/// let _watch = WatchOptions::new(&folder)
 ///     .refused(|file| {
 ///         assert!(file.path().ends_with("fr/LC_MESSAGES/garden.po"));
 ///         assert_eq!((file.line(), file.fault()), (Some(1), Some(Fault::PoOpenString)));
@@ -389,12 +389,11 @@ struct Looking {
     store: Arc<Store>,
     how: WatchOptions,
     changes: Option<Arc<Changes>>,
-    /// The folders that are reported, by their numbers.
-    folders: HashMap<i32, PathBuf>,
-    /// Whether all folders are.
+    /// Whether all folders are reported.
     is_reported: bool,
-    /// The files that somebody is writing, with the time of the last write.
-    writing: HashMap<PathBuf, Instant>,
+    /// The files that somebody is writing, by the number under which their folder is reported and by their names, with
+    /// the time of the last write. A folder keeps its number when it is renamed, and has one for all of its paths.
+    writing: HashMap<(i32, OsString), Instant>,
     /// What was loaded or refused.
     seen: HashMap<PathBuf, Seen>,
     /// Whether a publish failed, so that its loads are still pending.
@@ -484,8 +483,8 @@ impl Looking {
     fn changed(&mut self) -> HashMap<PathBuf, Stamp> {
         self.take_changes();
         let mut found = HashMap::new();
-        for path in self.paths() {
-            if self.writing.get(&path).map_or(false, |it| it.elapsed() < LONGEST_WRITE) {
+        for (folder, path) in self.paths() {
+            if self.is_being_written(folder, &path) {
                 continue;
             }
             match stamp_of(&path) {
@@ -500,51 +499,61 @@ impl Looking {
 
     /// Notes which files are being written, of those that the system has reported.
     fn take_changes(&mut self) {
-        let (folders, writing) = (&mut self.folders, &mut self.writing);
+        let writing = &mut self.writing;
         let changes = match &self.changes {
             Some(changes) => changes,
             None => return,
         };
         changes.read(|change| {
+            let file = (change.folder, change.name.to_os_string());
             if change.mask & inotify::IN_Q_OVERFLOW != 0 {
                 writing.clear();
             } else if change.mask & inotify::IN_IGNORED != 0 {
-                folders.remove(&change.folder);
-            } else if let Some(folder) = folders.get(&change.folder) {
-                let path = folder.join(change.name);
-                if change.mask & inotify::IN_MODIFY != 0 {
-                    writing.insert(path, Instant::now());
-                } else if change.mask & !(inotify::IN_ATTRIB | inotify::IN_CREATE) != 0 {
-                    writing.remove(&path);
-                }
+                writing.retain(|(folder, _), _| *folder != change.folder);
+            } else if change.mask & inotify::IN_MODIFY != 0 {
+                writing.insert(file, Instant::now());
+            } else if change.mask & !(inotify::IN_ATTRIB | inotify::IN_CREATE) != 0 {
+                writing.remove(&file);
             }
         });
     }
 
-    /// The files of the folder that are catalogues by their names. Their folders are reported from now on.
-    fn paths(&mut self) -> Vec<PathBuf> {
+    /// Whether somebody is writing a file of the folder with this number.
+    fn is_being_written(&self, folder: Option<i32>, path: &Path) -> bool {
+        let file = folder.and_then(|it| Some((it, path.file_name()?.to_os_string())));
+        let last = file.and_then(|it| self.writing.get(&it));
+        last.map_or(false, |it| it.elapsed() < LONGEST_WRITE)
+    }
+
+    /// The files that are catalogues by their names, each with the number of its folder. Their folders are reported from
+    /// now on.
+    fn paths(&mut self) -> Vec<(Option<i32>, PathBuf)> {
         let mut paths = Vec::new();
         let top = self.how.folder.clone();
-        self.is_reported = self.report(&top);
+        self.is_reported = true;
+        self.report(&top);
         for locale in listed(&top).filter(|it| it.is_dir()) {
+            self.report(&locale);
             let folder = locale.join("LC_MESSAGES");
-            let is_there = folder.is_dir();
-            self.is_reported &= self.report(&locale) && (!is_there || self.report(&folder));
-            paths.extend(listed(&folder).filter(|it| self.is_wanted(it)));
+            if folder.is_dir() {
+                let number = self.report(&folder);
+                let wanted = listed(&folder).filter(|it| self.is_wanted(it));
+                paths.extend(wanted.map(|it| (number, it)));
+            }
         }
         paths
     }
 
-    /// Has the system report this folder; false if it doesn't.
-    fn report(&mut self, folder: &Path) -> bool {
-        match self.changes.as_ref().map(|it| it.add(folder)) {
-            Some(Ok(number)) => {
-                self.folders.entry(number).or_insert_with(|| folder.to_path_buf());
-                true
+    /// Has the system report this folder, and returns the number under which it does. If it doesn't, not all folders are
+    /// reported.
+    fn report(&mut self, folder: &Path) -> Option<i32> {
+        match self.changes.as_ref()?.add(folder) {
+            Ok(number) => Some(number),
+            Err(why) => {
+                // (a folder that is gone has nothing to report)
+                self.is_reported &= why.kind() == io::ErrorKind::NotFound;
+                None
             }
-            // (a folder that is gone has nothing to report)
-            Some(Err(why)) => why.kind() == io::ErrorKind::NotFound,
-            None => false,
         }
     }
 

@@ -2,6 +2,7 @@ use crate::{compiled, GARDEN};
 use kobdzila::{Domain, Fault, FileRefused, Store, Watch, WatchOptions};
 use std::fs::{self, File};
 use std::io::Write;
+use std::os::unix::fs::symlink;
 use std::path::PathBuf;
 use std::sync::{Arc, Mutex};
 use std::thread;
@@ -140,23 +141,53 @@ fn files_that_come_together_are_one_publish() {
     panic!("a hundred times too slow");
 }
 
-#[test]
-fn a_file_that_is_being_written_is_not_loaded() {
-    let garden = Garden::new("writing");
-    garden.write(PO, winter("one"));
-    let watch = garden.watch();
+/// Writes a locale's file piece by piece, over a catalogue that says `one`: nothing is published before it is closed.
+fn write_slowly(garden: &Garden, watch: &Watch, locale: &str) {
+    let before = garden.store.version();
     let text = winter("two") + "msgid \"Summer\"\nmsgstr \"ete\"\n";
-    let mut file = File::create(garden.path(PO)).unwrap();
+    let mut file = File::create(garden.path(&format!("{locale}/LC_MESSAGES/garden.po"))).unwrap();
     for part in text.as_bytes().chunks(20) {
         file.write_all(part).unwrap();
         // (longer than a file has to stay as it is)
         thread::sleep(Duration::from_millis(60));
         assert_eq!(watch.look(), None);
-        assert_eq!((garden.store.version(), garden.winter("fr")), (1, "one".into()));
+        assert_eq!((garden.store.version(), garden.winter(locale)), (before, "one".into()));
     }
     drop(file);
-    comes("two", || garden.winter("fr") == "two");
-    assert_eq!((garden.store.version(), garden.refused().len()), (2, 0));
+    comes("two", || garden.winter(locale) == "two");
+    assert_eq!(garden.refused().len(), 0);
+}
+
+#[test]
+fn a_file_that_is_being_written_is_not_loaded() {
+    let garden = Garden::new("writing");
+    garden.write(PO, winter("one"));
+    let watch = garden.watch();
+    write_slowly(&garden, &watch, "fr");
+    assert_eq!(garden.store.version(), 2);
+}
+
+#[test]
+fn nor_is_one_in_a_folder_that_was_renamed() {
+    let garden = Garden::new("renamed");
+    fs::create_dir_all(garden.path("de.new/LC_MESSAGES")).unwrap();
+    garden.write("de.new/LC_MESSAGES/garden.po", winter("one"));
+    let watch = garden.watch();
+    fs::rename(garden.path("de.new"), garden.path("de")).unwrap();
+    comes("one", || garden.winter("de") == "one");
+    write_slowly(&garden, &watch, "de");
+    assert_eq!(garden.store.version(), 3);
+}
+
+#[test]
+fn nor_is_one_in_a_folder_that_has_two_names() {
+    let garden = Garden::new("two-names");
+    garden.write(PO, winter("one"));
+    symlink("fr", garden.path("fr_FR")).unwrap();
+    let watch = garden.watch();
+    write_slowly(&garden, &watch, "fr");
+    comes("two", || garden.winter("fr_FR") == "two");
+    assert_eq!(garden.store.version(), 4);
 }
 
 #[test]
