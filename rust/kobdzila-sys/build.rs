@@ -12,16 +12,21 @@ use std::{ffi::OsStr, os::unix::ffi::OsStrExt};
 const LIB_DIR: &str = "KOBDZILA_LIB_DIR";
 /// The first version of the library that has all that this crate declares.
 const LEAST_VERSION: &str = "0.2.0";
+/// The first version that may have removed or changed some of it.
+const NEXT_INTERFACE: &str = "1";
+/// The variables by which pkg-config is one of the machine that the program is for.
+const PKG_CONFIG_OF_TARGET: [&str; 4] = [
+    "PKG_CONFIG",
+    "PKG_CONFIG_ALLOW_CROSS",
+    "PKG_CONFIG_LIBDIR",
+    "PKG_CONFIG_SYSROOT_DIR",
+];
 
 fn main() {
-    for name in [
-        LIB_DIR,
-        "DOCS_RS",
-        "PKG_CONFIG",
-        "PKG_CONFIG_PATH",
-        "PKG_CONFIG_LIBDIR",
-        "PKG_CONFIG_SYSROOT_DIR",
-    ] {
+    for name in [LIB_DIR, "DOCS_RS", "PKG_CONFIG_PATH"]
+        .iter()
+        .chain(&PKG_CONFIG_OF_TARGET)
+    {
         println!("cargo:rerun-if-env-changed={name}");
     }
     println!("cargo:rerun-if-changed=build.rs");
@@ -46,8 +51,22 @@ fn is_supported() -> bool {
     is("CARGO_CFG_TARGET_OS", "linux") && is("CARGO_CFG_TARGET_POINTER_WIDTH", "64")
 }
 
+/// The library's file.
+fn file_name(is_static: bool) -> &'static str {
+    if is_static {
+        "libkobdzila.a"
+    } else {
+        "libkobdzila.so"
+    }
+}
+
+/// Links the library of these folders. Another one in its place, such as an upgrade, is linked anew.
 fn link(folders: &[PathBuf], is_static: bool) {
     for folder in folders {
+        let file = folder.join(file_name(is_static));
+        if file.exists() {
+            println!("cargo:rerun-if-changed={}", file.display());
+        }
         println!("cargo:rustc-link-search=native={}", folder.display());
     }
     let kind = if is_static { "static" } else { "dylib" };
@@ -64,24 +83,33 @@ fn folders(is_static: bool) -> Result<Vec<PathBuf>, String> {
 
 /// The folder of `KOBDZILA_LIB_DIR`, if it has the library.
 fn named_folder(folder: &Path, is_static: bool) -> Result<PathBuf, String> {
-    let file = if is_static { "libkobdzila.a" } else { "libkobdzila.so" };
+    let file = file_name(is_static);
     if folder.is_relative() {
         return Err(format!("{LIB_DIR} is {}: name it by its full path", folder.display()));
     }
     if !folder.join(file).exists() {
         return Err(format!("{LIB_DIR} is {}, which has no {file}", folder.display()));
     }
-    println!("cargo:rerun-if-changed={}", folder.join(file).display());
     Ok(folder.to_path_buf())
 }
 
 /// The folders that pkg-config says, also those in which a linker looks anyway.
 fn folders_by_pkg_config() -> Result<Vec<PathBuf>, String> {
+    let (host, target) = (env::var("HOST").ok(), env::var("TARGET").ok());
+    if host != target && PKG_CONFIG_OF_TARGET.iter().all(|name| env::var_os(name).is_none()) {
+        return Err(missing(&format!(
+            "pkg-config finds the libraries of {}, and the program is for {}: use {LIB_DIR}, or say by \
+             PKG_CONFIG_SYSROOT_DIR where pkg-config finds those of that one",
+            host.unwrap_or_default(),
+            target.unwrap_or_default(),
+        )));
+    }
     let program = env::var_os("PKG_CONFIG").unwrap_or_else(|| "pkg-config".into());
     let asked = Command::new(&program)
         .env("PKG_CONFIG_ALLOW_SYSTEM_LIBS", "1")
         .args(["--print-errors", "--libs-only-L"])
         .arg(format!("kobdzila >= {LEAST_VERSION}"))
+        .arg(format!("kobdzila < {NEXT_INTERFACE}"))
         .output();
     let said = match asked {
         Ok(output) if output.status.success() => output.stdout,
@@ -129,7 +157,7 @@ fn words_of(line: &[u8]) -> Vec<Vec<u8>> {
 
 fn missing(why: &str) -> String {
     format!(
-        "libkobdzila {LEAST_VERSION} or later was not found. Install it, or set {LIB_DIR} to the folder that has it, \
-         such as `lib` of an unpacked release.\n{why}"
+        "libkobdzila {LEAST_VERSION} or later, below {NEXT_INTERFACE}, was not found. Install it, or set {LIB_DIR} to \
+         the folder that has it, such as `lib` of an unpacked release.\n{why}"
     )
 }

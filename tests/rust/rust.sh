@@ -432,6 +432,16 @@ else
   sed "s/^libdir=.*/libdir=\${pcfiledir}\/../" "$room/image/usr/lib/pkgconfig/kobdzila.pc" > "$odd/pkgconfig/kobdzila.pc"
   prints "$name, in a folder with blanks" $'Hiver\n3 tomates' env PKG_CONFIG_PATH="$odd/pkgconfig" \
     LD_LIBRARY_PATH= cargo run -q --example hello
+  # (as an upgrade does)
+  touch "$odd/libkobdzila.a"
+  name="$name, and another one in its place"
+  if ! PKG_CONFIG_PATH=$odd/pkgconfig ends cargo build -v --example hello; then
+    failed "$name" "$(why)"
+  elif grep -q 'Dirty kobdzila-sys .*libkobdzila.a.* has changed' "$room/log"; then
+    ok "$name"
+  else
+    failed "$name" 'it is not linked anew'
+  fi
 fi
 
 # stops NAME TEXT COMMAND..: the build fails, and says this
@@ -448,6 +458,15 @@ stops() {
 }
 
 stops 'no library' 'or set KOBDZILA_LIB_DIR to the folder' env PKG_CONFIG=/no/such/pkg-config cargo build
+if [ -f "$room/image/usr/lib/pkgconfig/kobdzila.pc" ]; then
+  mkdir "$room/next"
+  sed 's/^Version:.*/Version: 1.0.0/' "$room/image/usr/lib/pkgconfig/kobdzila.pc" > "$room/next/kobdzila.pc"
+  stops 'a library of another interface' 'kobdzila < 1' env PKG_CONFIG_PATH="$room/next" PKG_CONFIG_LIBDIR=/no/such/folder \
+    cargo build
+fi
+other=aarch64-unknown-linux-gnu
+[ "$(uname -m)" != aarch64 ] || other=x86_64-unknown-linux-gnu
+stops 'a library of another machine' "and the program is for $other" cargo build --target "$other"
 stops 'a folder without the library' 'which has no libkobdzila.a' env KOBDZILA_LIB_DIR=/ cargo build
 stops 'a folder without the shared library' 'which has no libkobdzila.so' env KOBDZILA_LIB_DIR=/ \
   cargo build --no-default-features
