@@ -94,6 +94,46 @@ pub const KOB_STRICT: c_uint = 4;
 pub const KOB_WITHOUT_INDEX: c_uint = 8;
 pub const KOB_MO: c_uint = 0;
 pub const KOB_PO: c_uint = 1;
+pub const KOB_ESCAPED: c_uint = 1;
+pub const KOB_OBJC_FORMAT: c_uint = 0;
+pub const KOB_CXX_FORMAT: c_uint = 1;
+pub const KOB_PYTHON_FORMAT: c_uint = 2;
+pub const KOB_PYTHON_BRACE_FORMAT: c_uint = 3;
+pub const KOB_JAVA_FORMAT: c_uint = 4;
+pub const KOB_JAVA_PRINTF_FORMAT: c_uint = 5;
+pub const KOB_CSHARP_FORMAT: c_uint = 6;
+pub const KOB_JAVASCRIPT_FORMAT: c_uint = 7;
+pub const KOB_SCHEME_FORMAT: c_uint = 8;
+pub const KOB_LISP_FORMAT: c_uint = 9;
+pub const KOB_ELISP_FORMAT: c_uint = 10;
+pub const KOB_LIBREP_FORMAT: c_uint = 11;
+pub const KOB_RUST_FORMAT: c_uint = 12;
+pub const KOB_GO_FORMAT: c_uint = 13;
+pub const KOB_RUBY_FORMAT: c_uint = 14;
+pub const KOB_SH_FORMAT: c_uint = 15;
+pub const KOB_SH_PRINTF_FORMAT: c_uint = 16;
+pub const KOB_AWK_FORMAT: c_uint = 17;
+pub const KOB_LUA_FORMAT: c_uint = 18;
+pub const KOB_OBJECT_PASCAL_FORMAT: c_uint = 19;
+pub const KOB_MODULA2_FORMAT: c_uint = 20;
+pub const KOB_D_FORMAT: c_uint = 21;
+pub const KOB_OCAML_FORMAT: c_uint = 22;
+pub const KOB_SMALLTALK_FORMAT: c_uint = 23;
+pub const KOB_QT_FORMAT: c_uint = 24;
+pub const KOB_QT_PLURAL_FORMAT: c_uint = 25;
+pub const KOB_KDE_FORMAT: c_uint = 26;
+pub const KOB_KDE_KUIT_FORMAT: c_uint = 27;
+pub const KOB_BOOST_FORMAT: c_uint = 28;
+pub const KOB_TCL_FORMAT: c_uint = 29;
+pub const KOB_PERL_FORMAT: c_uint = 30;
+pub const KOB_PERL_BRACE_FORMAT: c_uint = 31;
+pub const KOB_PHP_FORMAT: c_uint = 32;
+pub const KOB_GCC_INTERNAL_FORMAT: c_uint = 33;
+pub const KOB_GFC_INTERNAL_FORMAT: c_uint = 34;
+pub const KOB_YCP_FORMAT: c_uint = 35;
+pub const KOB_FORMAT_INVALID: c_uint = 0;
+pub const KOB_FORMAT_ARGUMENTS: c_uint = 1;
+pub const KOB_FORMAT_UNREAD: c_uint = 2;
 
 /// An opaque type of C: its size isn't known to Rust, and only the library makes and frees it.
 #[repr(C)]
@@ -126,6 +166,20 @@ pub struct kob_reader {
 /// An opaque type of C, like [`kob_catalogue`].
 #[repr(C)]
 pub struct kob_notice {
+    _opaque: [u8; 0],
+    _not_sent: PhantomData<*mut u8>,
+}
+
+/// An opaque type of C, like [`kob_catalogue`].
+#[repr(C)]
+pub struct kob_po_file {
+    _opaque: [u8; 0],
+    _not_sent: PhantomData<*mut u8>,
+}
+
+/// An opaque type of C, like [`kob_catalogue`].
+#[repr(C)]
+pub struct kob_format_faults {
     _opaque: [u8; 0],
     _not_sent: PhantomData<*mut u8>,
 }
@@ -179,6 +233,15 @@ pub struct kob_question {
     pub n: *const c_ulonglong,
 }
 
+#[repr(C)]
+#[derive(Clone, Copy, Debug)]
+pub struct kob_format_fault {
+    pub line: c_uint,
+    pub language: c_uint,
+    pub form: c_uint,
+    pub difference: c_uint,
+}
+
 #[cfg(not(miri))]
 extern "C" {
     pub fn kob_version() -> *const c_char;
@@ -226,6 +289,19 @@ extern "C" {
     pub fn kob_form_at(catalogue: *const kob_catalogue, index: usize, form: usize) -> kob_text;
     pub fn kob_statistics(catalogue: *const kob_catalogue, counts: *mut kob_counts);
     pub fn kob_mo_file(catalogue: *const kob_catalogue) -> kob_text;
+    pub fn kob_write_po(catalogue: *const kob_catalogue, options: c_uint) -> *mut kob_po_file;
+    pub fn kob_recode_po(bytes: *const c_void, len: usize, why: *mut kob_refusal) -> *mut kob_po_file;
+    pub fn kob_po_text(file: *const kob_po_file) -> kob_text;
+    pub fn kob_po_free(file: *mut kob_po_file);
+    pub fn kob_check_formats(
+        bytes: *const c_void,
+        len: usize,
+        options: c_uint,
+        why: *mut kob_refusal,
+    ) -> *mut kob_format_faults;
+    pub fn kob_format_fault_count(faults: *const kob_format_faults) -> usize;
+    pub fn kob_format_fault_at(faults: *const kob_format_faults, index: usize, fault: *mut kob_format_fault) -> c_int;
+    pub fn kob_format_faults_free(faults: *mut kob_format_faults);
     pub fn kob_set_new() -> *mut kob_set;
     pub fn kob_set_with(
         set: *const kob_set,

@@ -1,9 +1,9 @@
-//! Compares the declarations of `src/lib.rs` with `kobdzila.h`, as texts: each function, struct and constant that the
-//! crate declares is in the header, with the same names and types.
+//! Compares the declarations of `src/lib.rs` with `kobdzila.h`, as texts: the crate declares each function, struct and
+//! constant of the header, and no others, with the same names and types.
 //!
 //! The header is the repository's, or that of the variable `KOBDZILA_HEADER`. The crate alone has none to compare with.
 
-use std::collections::BTreeMap;
+use std::collections::{BTreeMap, BTreeSet};
 use std::path::Path;
 
 const SYS: &str = include_str!("../src/lib.rs");
@@ -50,8 +50,9 @@ fn rust_type(c: &str) -> String {
         "char" => "c_char",
         "void" => "c_void",
         "int" => "c_int",
-        "unsigned" | "enum kob_fault" | "enum kob_kind" => "c_uint",
+        "unsigned" => "c_uint",
         "unsigned long long" => "c_ulonglong",
+        name if name.starts_with("enum ") => "c_uint",
         "size_t" => "usize",
         other => other,
     };
@@ -105,15 +106,14 @@ fn functions_are_those_of_the_header() {
         None => return,
     };
     let wanted = functions_of_c(&header);
-    assert!(wanted.len() >= 47, "the header has only {:?}", wanted.keys());
+    assert!(wanted.len() >= 60, "the header has only {:?}", wanted.keys());
     let block = between(SYS, "extern \"C\" {", "\n}").next().unwrap();
-    let declared: Vec<String> = block.split(';').map(squeezed).filter(|it| !it.is_empty()).collect();
-    assert!(declared.len() >= 47);
-    for function in declared {
-        let function = function.trim_start_matches("pub").to_string();
-        let name = function.trim_start_matches("fn").split('(').next().unwrap();
-        assert_eq!(Some(&function), wanted.get(name), "{name}");
-    }
+    let declared: BTreeSet<String> = block
+        .split(';')
+        .map(|it| squeezed(it).trim_start_matches("pub").to_string())
+        .filter(|it| !it.is_empty())
+        .collect();
+    assert_eq!(declared, wanted.into_values().collect());
 }
 
 /// A field by its declarator of C, which is a name or `name[LENGTH]`, and the type before it.
@@ -142,18 +142,17 @@ fn structs_are_those_of_the_header() {
         Some(header) => header,
         None => return,
     };
-    for name in [
-        "kob_refusal",
-        "kob_text",
-        "kob_entry",
-        "kob_counts",
-        "kob_languages",
-        "kob_question",
-    ] {
-        let end = format!("}} {name};");
-        let before = header.split(&end).next().unwrap();
-        assert_ne!(before.len(), header.len(), "the header has no struct {name}");
-        let body = before.rsplit('{').next().unwrap();
+    let wanted: BTreeMap<&str, &str> = header
+        .split("typedef struct")
+        .filter_map(|it| it.split_once('{'))
+        .filter(|(head, _)| !head.contains(';'))
+        .filter_map(|(_, it)| it.split_once('}'))
+        .map(|(body, rest)| (rest.split(';').next().unwrap().trim(), body))
+        .collect();
+    assert!(wanted.len() >= 7, "{wanted:?}");
+    let ours = between(SYS, "#[derive(Clone, Copy, Debug)]\npub struct ", " {");
+    assert_eq!(ours.collect::<BTreeSet<_>>(), wanted.keys().copied().collect());
+    for (name, body) in wanted {
         let start = format!("#[repr(C)]\n#[derive(Clone, Copy, Debug)]\npub struct {name} {{");
         let ours = between(SYS, &start, "}").next().unwrap_or("").replace("pub ", "");
         assert_eq!(squeezed(&ours).trim_end_matches(','), fields_of_c(body), "{name}");
@@ -192,12 +191,10 @@ fn constants_are_those_of_the_header() {
         None => return,
     };
     let wanted = constants_of_c(&header);
-    let ours: Vec<(&str, u32)> = between(SYS, "pub const KOB_", ";")
+    let ours: BTreeMap<&str, u32> = between(SYS, "pub const ", ";")
         .map(|it| it.split_once(": c_uint = ").unwrap())
         .map(|(name, number)| (name, number.parse().unwrap()))
         .collect();
-    assert!(ours.len() >= 37, "{ours:?}");
-    for (name, number) in ours {
-        assert_eq!(Some(&number), wanted.get(format!("KOB_{name}").as_str()), "KOB_{name}");
-    }
+    assert!(ours.len() >= 87, "{ours:?}");
+    assert_eq!(ours, wanted);
 }
