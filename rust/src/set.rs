@@ -42,6 +42,7 @@ use crate::sys;
 ///
 /// A domain or a list of languages that no catalogue can have, such as an empty one or one with a NUL, finds nothing.
 #[derive(Clone)]
+#[must_use = "a set never changes: `with` and `with_installed` return another"]
 pub struct Set(sys::Set);
 
 impl Set {
