@@ -69,7 +69,11 @@ prepare() {
 }
 put() { mv -f "$2.new" "$2"; }
 drop_new() { rm -f "$2.new"; }
-drop() { rm -f "$2"; }
+# drop FILE NAME: removes a file, unless another installation below PREFIX has it as well
+drop() {
+  if [ -n "$others" ] && [ "$(as=other-; target "$1")" = "$2" ]; then return; fi
+  rm -f "$2"
+}
 
 # empty_folders LIST: removes those that are empty, and says nothing of the others
 empty_folders() {
@@ -79,13 +83,18 @@ empty_folders() {
 }
 
 if [ $# = 1 ]; then
-  made=$(cat "$noted" 2> /dev/null || true)
-  each drop && rm -f "$noted"
+  made=$(cat "$noted" 2> /dev/null || true) status=0
+  # (one with other names for the programs)
+  others=$(find "$prefix/share/doc" -path '*kobdzila/folders' ! -path "$noted" 2> /dev/null || true)
+  if each drop && rm -f "$noted"; then :; else
+    status=1
+    printf '%s\n' "install.sh: not all of it was removed below $prefix" >&2
+  fi
   empty_folders "$made
 $prefix/lib/kobdzila
 $documents/reference
 $documents"
-  exit
+  exit "$status"
 fi
 
 made=

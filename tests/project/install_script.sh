@@ -126,7 +126,9 @@ holds 'a prefix for the programs: their completions' complete kob-msgfmt
 holds 'two installations: the completions of the other' complete msgfmt
 PROGRAM_PREFIX=kob- install remove
 holds 'one is removed, and the programs of the other stay' test -x "$PREFIX/bin/msgfmt" -a ! -e "$PREFIX/bin/kob-msgfmt"
+holds 'and so do the files of both' test -f "$PREFIX/lib/libkobdzila.a" -a -x "$PREFIX/bin/kob-compile"
 install remove
+holds 'then both are removed' test "$(find "$PREFIX" ! -type d)" = "$PREFIX/bin/mine"
 rm -r "$PREFIX"
 
 # a program that runs keeps its file
@@ -164,6 +166,13 @@ if [ "$(id -u)" = 0 ]; then
   said=$(setpriv --reuid=nobody --regid=65534 --clear-groups sh "$room/tarball/install.sh" 2>&1)
   status=$?
   holds 'a user without the right to write' is_refused
+  PREFIX=$room/of_root
+  install
+  before=$(listed)
+  said=$(setpriv --reuid=nobody --regid=65534 --clear-groups sh "$room/tarball/install.sh" remove 2>&1)
+  status=$?
+  holds 'a user without the right to remove: all of it stays' test $status = 1 -a "$(listed)" = "$before"
+  install remove
 else
   skipped 'install.sh: a user without the right to write' 'only root can become another user'
 fi
