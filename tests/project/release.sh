@@ -332,11 +332,21 @@ if tests/lib/needs ssh-keygen openssh-client; then
   ssh-keygen -q -t ed25519 -N '' -C maintainers -f "$room/key"
   echo "maintainers $(cut -d ' ' -f 1,2 "$room/key.pub")" > "$room/signers"
   checks() { ssh-keygen -Y verify -f "$room/signers" -I maintainers -n kobdzila-release -s SHA256SUMS.sig < SHA256SUMS; }
+  mkdir "$room/one/$build/deb"
+  echo package > "$room/one/$build/deb/kobdzila_1_all.deb"
+  (cd "$room/one/$build/deb" && sha256sum ./*.deb | sed 's| \./| |' > SHA256SUMS)
+  touch -d '2001-02-03' "$room/one/$build/deb/SHA256SUMS"
+  says 'the signature: packages of an earlier time are refused' \
+    "tools/sign: the packages in $build/deb are older than $build/dist: make deb packs them anew" \
+    "$(cd "$room/one" && tools/sign "$room/key" 2>&1)"
+  touch "$room/one/$build/deb/SHA256SUMS"
   if said=$(cd "$room/one" && make -s sign KEY="$room/key" 2>&1 && cd "$build/dist" && checks 2>&1); then
     ok 'the signature: checked by ssh-keygen'
   else
     failed 'the signature: checked by ssh-keygen' "$said"
   fi
+  says 'the signature: the Debian packages are among what is signed' 'kobdzila_1_all.deb: OK' \
+    "$(cd "$room/one/$build/dist" && sha256sum -c SHA256SUMS 2>&1 | grep -F .deb)"
   if said=$(cd "$room/one/$build/dist" && sed -i 's/^./x/' SHA256SUMS && checks 2>&1); then
     failed 'the signature: a changed sum is found' 'it is not'
   else
