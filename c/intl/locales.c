@@ -4,6 +4,7 @@
 #define _GNU_SOURCE
 #include "intl.h"
 
+#include <gnu/libc-version.h>
 #include <langinfo.h>
 #include <locale.h>
 #include <stdatomic.h>
@@ -101,10 +102,15 @@ SHOWN char *setlocale(int category, const char *locale) {
 
 static locale_t own_locale(void) { return uselocale((locale_t)0); }
 
+/* Whether a locale is that of the program's own texts: C, and as of glibc 2.39 also C with a codeset, as C.UTF-8. */
+static int is_untranslated(const char *name) {
+    return name[0] == 'C' && (!name[1] || (name[1] == '.' && strverscmp(gnu_get_libc_version(), "2.39") >= 0));
+}
+
 const char *languages_for(int category) {
     locale_t own = own_locale();
     const char *name = own == LC_GLOBAL_LOCALE ? names[category] : nl_langinfo_l(NL_LOCALE_NAME(category), own);
-    if (!name || !strcmp(name, "C"))
+    if (!name || is_untranslated(name))
         return NULL;
     const char *list = getenv("LANGUAGE");
     return list && *list ? list : name;
