@@ -122,7 +122,8 @@ impl Preferences {
 
     /// Returns the languages of the environment: those of the variable `LANGUAGE`, or else that of the first of
     /// `LC_ALL`, `LC_MESSAGES` and `LANG` that isn't empty. If that is `C` or `POSIX`, or if all are empty, `LANGUAGE`
-    /// isn't read, and there is no language (GNU gettext manual, "The LANGUAGE variable").
+    /// isn't read, and there is no language (GNU gettext manual, "The LANGUAGE variable"). So it is for `C` with a
+    /// codeset, such as `C.UTF-8`, as in GNU gettext from 0.22 and glibc from 2.39 on.
     ///
     /// ```
     /// use kobdzila::Preferences;
@@ -130,14 +131,16 @@ impl Preferences {
     /// std::env::set_var("LC_ALL", "fr_CA.UTF-8");
     /// std::env::set_var("LANGUAGE", "sv:fr_CA");
     /// assert_eq!(Preferences::of_environment().list(), "sv:fr_CA:fr");
-    /// std::env::set_var("LC_ALL", "C");
-    /// assert_eq!(Preferences::of_environment().list(), "");
+    /// for locale in ["C", "C.UTF-8", "POSIX"] {
+    ///     std::env::set_var("LC_ALL", locale);
+    ///     assert_eq!(Preferences::of_environment().list(), "");
+    /// }
     /// ```
     pub fn of_environment() -> Preferences {
         let value = |name| env::var(name).ok().filter(|it| !it.is_empty());
         let locale = ["LC_ALL", "LC_MESSAGES", "LANG"].into_iter().find_map(value);
         match locale {
-            Some(locale) if locale != "C" && locale != "POSIX" => {
+            Some(locale) if !is_untranslated(&locale) => {
                 let list = value("LANGUAGE").unwrap_or(locale);
                 Preferences::new(list.split(':').filter(|it| !it.is_empty()))
             }
@@ -211,6 +214,11 @@ impl Preferences {
         }
         names.join(":")
     }
+}
+
+/// Whether a locale is that of the program's own texts.
+fn is_untranslated(locale: &str) -> bool {
+    locale == "POSIX" || locale.split('.').next() == Some("C")
 }
 
 /// The part of a header that is read.
