@@ -194,6 +194,11 @@ void compile_one(const struct run *run, struct catalogue *it) {
         end_with(it, IS_UNREAD, errno);
         return;
     }
+    if (text.len > MOST_TEXT) { /* (then nothing was read) */
+        end_refused(run, it, (kob_refusal){KOB_PO_TOO_LARGE, 0}, (struct text_bytes){"", 0});
+        free(bytes);
+        return;
+    }
     char *utf8 = NULL;
     if (!take_utf8(&text, &utf8))
         end_with(it, IS_UNREAD, ENOMEM);
