@@ -34,11 +34,12 @@ struct temporary {
 };
 
 /* Whether a locked file is still the one of this name, and fit to be written: another run may have renamed it, and a
- * stranger may have put it there. */
-static bool is_ours(int file, const char *name) {
+ * stranger may have put it there. One that is new may belong to another user, as where NFS squashes root. */
+static bool is_ours(int file, const char *name, bool is_new) {
     struct stat open, named;
     return fstat(file, &open) == 0 && lstat(name, &named) == 0 && open.st_dev == named.st_dev &&
-           open.st_ino == named.st_ino && S_ISREG(open.st_mode) && open.st_uid == geteuid() && open.st_nlink == 1;
+           open.st_ino == named.st_ino && S_ISREG(open.st_mode) && (is_new || open.st_uid == geteuid()) &&
+           open.st_nlink == 1;
 }
 
 /* Open a new file of this name, or the one that a killed run left. -1 and EEXIST if the name is taken, or another errno.
@@ -55,7 +56,7 @@ static int claim(const char *name) {
     }
     bool is_locked = flock(file, LOCK_EX | LOCK_NB) == 0;
     bool is_free = is_locked || (is_new && errno != EWOULDBLOCK);
-    if (is_free && is_ours(file, name) && (is_new || ftruncate(file, 0) == 0))
+    if (is_free && is_ours(file, name, is_new) && (is_new || ftruncate(file, 0) == 0))
         return file;
     close(file);
     errno = EEXIST;
@@ -79,6 +80,9 @@ static int open_temporary(struct temporary *temporary, const char *name) {
     return EEXIST;
 }
 
+/* Give a file this mode. One of another user keeps that with which it was made, which nobody else can read. */
+static int set_mode(int file, mode_t mode) { return fchmod(file, mode) < 0 && errno != EPERM ? errno : 0; }
+
 /* Give a file the owner, the group and the mode of the one that it replaces, as far as this process may. */
 static int dress(int file, const struct stat *old) {
     mode_t mode = old->st_mode & 07777;
@@ -91,7 +95,7 @@ static int dress(int file, const struct stat *old) {
         if (fchown(file, (uid_t)-1, old->st_gid) < 0)
             mode &= 0707;
     }
-    return fchmod(file, mode) < 0 ? errno : 0;
+    return set_mode(file, mode);
 }
 
 /* Write a regular or new file; `old` is NULL for a new one. */
@@ -103,7 +107,7 @@ static int replace(const char *name, const char *bytes, size_t len, const struct
     if (!write_all(temporary.file, bytes, len))
         cause = errno;
     if (!cause)
-        cause = old ? dress(temporary.file, old) : fchmod(temporary.file, mode) < 0 ? errno : 0;
+        cause = old ? dress(temporary.file, old) : set_mode(temporary.file, mode);
     if (!cause && rename(temporary.name, name) < 0)
         cause = errno;
     if (cause)
@@ -114,9 +118,9 @@ static int replace(const char *name, const char *bytes, size_t len, const struct
     return cause;
 }
 
-/* Write a device or a pipe. */
-static int write_through(const char *name, const char *bytes, size_t len) {
-    int file = open(name, O_WRONLY | O_CLOEXEC | O_NOCTTY);
+/* Write a device or a pipe, or with `more` O_CREAT the file that a dangling link names. */
+static int write_through(const char *name, int more, const char *bytes, size_t len, mode_t mode) {
+    int file = open(name, O_WRONLY | O_CLOEXEC | O_NOCTTY | more, mode);
     if (file < 0)
         return errno;
     int cause = write_all(file, bytes, len) ? 0 : errno;
@@ -134,9 +138,11 @@ int write_in_one_step(const char *name, const char *bytes, size_t len, mode_t mo
     if (lstat(name, &old) < 0)
         return errno == ENOENT ? replace(name, bytes, len, NULL, mode) : errno;
     if (S_ISLNK(old.st_mode) && leads_to_stream(name))
-        return write_through(name, bytes, len);
+        return write_through(name, 0, bytes, len, mode);
     if (S_ISLNK(old.st_mode)) {
         char *target = realpath(name, NULL);
+        if (!target && errno == ENOENT)
+            return write_through(name, O_CREAT, bytes, len, mode);
         int cause = target ? write_in_one_step(target, bytes, len, mode) : errno;
         free(target);
         return cause;
@@ -144,7 +150,7 @@ int write_in_one_step(const char *name, const char *bytes, size_t len, mode_t mo
     if (S_ISDIR(old.st_mode))
         return EISDIR;
     if (!S_ISREG(old.st_mode))
-        return write_through(name, bytes, len);
+        return write_through(name, 0, bytes, len, mode);
     return replace(name, bytes, len, &old, mode);
 }
 
