@@ -210,6 +210,8 @@ static void look_at_listing(struct search *search, int folder, const char *path,
 /* Look into a folder: `name` below the open folder `parent`, whose path is `path`. */
 static void look_into(struct search *search, int parent, const char *name, const char *path) {
     struct listing listing = {0};
+    if (stopped_by)
+        return;
     if (search->watcher) /* (before it is read, so that nothing comes between) */
         watch_folder(search->watcher, path);
     bool is_given = parent == AT_FDCWD;
@@ -231,11 +233,28 @@ static void look_into(struct search *search, int parent, const char *name, const
 
 /* ---- the arguments */
 
+/* A path without `.` and slashes that don't count, so that a file has one name: ./po//fr.po is po/fr.po. */
+static char *plain_path(const char *place) {
+    char *path = text_of("%s", place), *to = path + (*place == '/');
+    for (const char *at = place; *(at += strspn(at, "/"));) {
+        size_t len = strcspn(at, "/");
+        if (len != 1 || *at != '.') {
+            if (to > path && to[-1] != '/')
+                *to++ = '/';
+            memcpy(to, at, len);
+            to += len;
+        }
+        at += len;
+    }
+    if (to == path && *place)
+        *to++ = '.';
+    *to = '\0';
+    return path;
+}
+
 static void look_at_place(struct search *search, const char *place) {
     struct stat about;
-    char *path = text_of("%s", place);
-    for (size_t len = strlen(path); len > 1 && path[len - 1] == '/'; len--)
-        path[len - 1] = '\0';
+    char *path = plain_path(place);
     if (stat(path, &about) < 0) {
         cannot(search, "read", path, errno);
     } else if (S_ISDIR(about.st_mode)) {

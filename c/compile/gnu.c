@@ -76,6 +76,19 @@ static struct ending run_gnu(const struct run *run, char *name, const struct cap
     return run_program(gnu, words, (struct streams){files->input, files->made, files->said, -1, -1});
 }
 
+/* Of a text without a translation GNU msgfmt writes no file: take Kobdzila's, which has no entry. */
+static void take_empty_mo(struct gnu_answer *answer) {
+    kob_catalogue *none = kob_open_po("", 0, KOB_WITHOUT_INDEX, NULL);
+    kob_text file = none ? kob_mo_file(none) : (kob_text){"", 0};
+    char *copy = none ? malloc(file.len) : NULL;
+    if (!copy)
+        stop_for_memory();
+    free(answer->mo);
+    answer->mo = memcpy(copy, file.at, file.len);
+    answer->len = file.len;
+    kob_release(none);
+}
+
 static void take_answer(struct gnu_answer *answer, const struct captured *files, struct ending ending,
                         const char *name) {
     size_t len = 0;
@@ -83,6 +96,8 @@ static void take_answer(struct gnu_answer *answer, const struct captured *files,
     if (said && ending.status == 0) {
         take_counts(&answer->counts, said);
         answer->mo = read_back(files->made, &answer->len);
+        if (answer->mo && answer->len == 0)
+            take_empty_mo(answer);
     } else if (said) {
         take_refusal(answer, name, said);
     }

@@ -81,7 +81,7 @@ static enum status compile_once(struct run *run) {
     enum status found = find_catalogues(run, NULL);
     if (found == USAGE)
         return USAGE;
-    if (run->catalogues.count == 0 && found == DONE) {
+    if (run->catalogues.count == 0 && found == DONE && !stopped_by) {
         tell("kob-compile: no PO file found; name a folder or files");
         return USAGE;
     }
@@ -99,6 +99,7 @@ int main(int count, char **words) {
     if (!read_options(&run.options, count, words, &status))
         return status;
     take_environment(&run);
+    keep_signal_mask();
     take_signals();
     status = run.options.watches ? watch(&run) : compile_once(&run);
     free_catalogues(&run.catalogues);

@@ -119,6 +119,9 @@ char *why_no_flag_lines(const char *path, int version);
 void take_streams(struct streams streams);
 /* Run a program until it ends. A signal that ends the driver is passed on to the program first. */
 struct ending run_program(const char *path, char **words, struct streams streams);
+
+/* Have programs run with the signals blocked that are blocked now. A thread that blocks others calls it before that. */
+void keep_signal_mask(void);
 /* Replace this process by the program. Returns only on failure, with why. */
 int become_program(const char *path, char **words, struct streams streams);
 /* End the driver the way the program ended. */

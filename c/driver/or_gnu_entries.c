@@ -2,7 +2,7 @@
  * previous msgids have the same form as all others. */
 #include "or_gnu_text.h"
 
-#include <stdlib.h>
+#include <limits.h>
 #include <string.h>
 
 /* ---- flags */
@@ -203,10 +203,18 @@ static bool take_form(struct reader *reader, struct entry *entry, const struct e
     return true;
 }
 
+/* The number that digits are, or the largest one if they are a larger one. */
+static unsigned long number_of(struct part digits) {
+    unsigned long number = 0;
+    for (const char *at = digits.at; at < digits.end; at++)
+        number = number > (ULONG_MAX - 9) / 10 ? ULONG_MAX : 10 * number + (unsigned long)(*at - '0');
+    return number;
+}
+
 static bool take_index(struct reader *reader, struct entry *entry, unsigned long index) {
     if (!take(reader, entry, OPEN))
         return false;
-    if (is_at(reader, NUMBER) && strtoul(reader->token.part.at, NULL, 10) != index)
+    if (is_at(reader, NUMBER) && number_of(reader->token.part) != index)
         return refuse(reader, entry);
     return take(reader, entry, NUMBER) && take(reader, entry, CLOSE);
 }

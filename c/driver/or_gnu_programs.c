@@ -142,17 +142,23 @@ void take_streams(struct streams streams) {
         dup2(streams.extra, streams.extra_as);
 }
 
+static sigset_t mask_of_programs;
+static bool has_mask;
+
+void keep_signal_mask(void) { has_mask = sigprocmask(SIG_SETMASK, NULL, &mask_of_programs) == 0; }
+
 /* vfork doesn't copy this process, and the child makes nothing but system calls. posix_spawn would set every signal,
  * one by one. */
 struct ending run_program(const char *path, char **words, struct streams streams) {
     sigset_t handed, before;
     volatile int failure = 0;
     hand_on_signals(&handed);
+    signal(SIGCHLD, SIG_DFL); /* (if it were ignored, nobody would learn how the program ended) */
     sigprocmask(SIG_BLOCK, &handed, &before);
     pid_t program = vfork();
     if (program == 0) {
         take_streams(streams);
-        sigprocmask(SIG_SETMASK, &before, NULL);
+        sigprocmask(SIG_SETMASK, has_mask ? &mask_of_programs : &before, NULL);
         execv(path, words);
         failure = errno;
         _exit(127);

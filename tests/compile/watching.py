@@ -86,9 +86,9 @@ WAYS = (save_by_rename, save_by_backup, save_by_truncating, save_in_steps, save_
 class Watching:
     """A run of `kob-compile --watch`, and the lines that it has printed."""
 
-    def __init__(self, *words: str) -> None:
+    def __init__(self, *places: str) -> None:
         self.lines: list[str] = []
-        self.run = subprocess.Popen([COMPILER, "--watch", "--no-gnu", *words, str(ROOM)], stdout=subprocess.PIPE,
+        self.run = subprocess.Popen([COMPILER, "--watch", "--no-gnu", *places], stdout=subprocess.PIPE,
                                     stderr=subprocess.STDOUT, text=True)
         threading.Thread(target=self.read, daemon=True).start()
 
@@ -170,11 +170,30 @@ def look_at_folders() -> None:
     judge("LINGUAS", "" if waits_for(lambda: has(ROOM / "moved/po/nl.mo", mo)) else "no MO file")
 
 
+def look_at_names() -> None:
+    """A file whose name has more dots and slashes than it needs."""
+    folder = Path("named")
+    folder.mkdir()
+    (folder / "fr.po").write_bytes(text_of(1, False))
+    (folder / "de.po").write_bytes(text_of(1, False))
+    watching = Watching("./named//fr.po", "named/./de.po")
+    waits_for(lambda: (folder / "fr.mo").exists() and (folder / "de.mo").exists())
+    wrong = ""
+    for number, it in ((2, "fr"), (3, "de")):
+        text, file = text_of(number, False), folder / f"{it}.mo"
+        mo = wanted_for(text)
+        save_by_rename(folder / f"{it}.po", text)
+        if not wrong and not waits_for(lambda: has(file, mo)):
+            wrong = f"{it}.mo isn't right; {watching.lines[:3]}"
+    watching.stop()
+    judge("names of files with dots and slashes", wrong)
+
+
 def main() -> None:
     signal.signal(signal.SIGINT, signal.SIG_DFL)  # (ignored in a background job of a shell, and so in its children)
     shutil.rmtree(ROOM, ignore_errors=True)
     ROOM.mkdir()
-    watching = Watching()
+    watching = Watching(str(ROOM))
     time.sleep(0.2)
     look_at_edits(watching)
     look_at_folders()
@@ -182,6 +201,7 @@ def main() -> None:
     judge("it ends by SIGINT", "" if status == 0 else f"status {status}")
     left = [str(it) for it in ROOM.rglob(".*") if it.name not in (".", "..")]
     judge("no leftover", "" if not left else str(left))
+    look_at_names()
 
 
 if __name__ == "__main__":

@@ -1,0 +1,84 @@
+#!/usr/bin/env bash
+# Runs bin/kob-compile where a file, a file system or the program that starts it is unusual: a text that is too large, new
+# files that belong to another user, links that lead nowhere, names that are spelled in several ways, a signal while it
+# searches, and signals that are ignored or blocked when GNU msgfmt runs.
+. "$(dirname "$0")/../lib/common"
+. tests/lib/c_common
+NAME='compile, surroundings'
+. tests/compile/begin
+
+# --- a text of more than 64 MiB: it is refused, and the others are compiled ----------------------------------------------
+
+po large/de.po de a
+truncate -s 67108865 large/fr.po
+says 'compile, a text that is too large' 1 'large/fr.po: file too large' --no-gnu -q large
+holds 'compile, a text that is too large: the other is compiled' is_as_msgfmt large/de.mo large/de.po
+rm -r large
+
+# --- links ----------------------------------------------------------------------------------------------------------------
+
+po links/fr.po fr a
+mkdir links/there && ln -s there/new.mo links/fr.mo
+says 'compile, a link that leads nowhere' 0 '' -q links
+holds 'compile, a link that leads nowhere: its target is made' is_as_msgfmt links/there/new.mo links/fr.po
+holds 'compile, a link that leads nowhere: it stays' [ -L links/fr.mo ]
+rm -r links/there
+says 'compile, a link into a folder that is not there' 3 \
+  'kob-compile: cannot write links/fr.mo: No such file or directory' -q --force links
+
+# --- names -----------------------------------------------------------------------------------------------------------------
+
+po names/po/fr.po fr a
+for it in ./names/po/fr.po names//po/fr.po names/./po/fr.po ./names/.//po/ .//names; do
+  says "compile, the name $it" 0 '' --force -o out -d x "$it" names/po
+done
+(cd names/po && "$tested" -q --force . ./fr.po) > out 2> err
+holds 'compile, the name . and a file in it' is_as_msgfmt names/po/fr.mo names/po/fr.po
+
+# --- what this machine isn't -------------------------------------------------------------------------------------------------
+
+if (cd "$top" && PROGRAM=kob-compile tools/build_driver "$room/dynamic" -g &&
+    cc -shared -fPIC -o "$room/surroundings.so" tests/compile/surroundings.c) > gcc 2>&1; then
+  of_sources=$tested tested=$room/dynamic
+  po squashed/fr.po fr a
+  under=(env SQUASHED=1 "LD_PRELOAD=$room/surroundings.so")
+  says 'compile, new files belong to another user' 0 '' -q squashed
+  holds 'compile, new files belong to another user: it is written' is_as_msgfmt squashed/fr.mo squashed/fr.po
+  po squashed/fr.po fr b
+  says 'compile, new files belong to another user: it is replaced' 0 '' -q --force squashed
+  holds 'compile, new files belong to another user: it is right' is_as_msgfmt squashed/fr.mo squashed/fr.po
+  holds 'compile, new files belong to another user: no leftover' has_no_leftover squashed
+  mkdir -p search/a/b search/c && po search/d/fr.po fr a
+  under=(env STOPPED=1 "LD_PRELOAD=$room/surroundings.so")
+  run search
+  holds 'compile, a signal while it searches: it ends by it' [ "$status" = 143 ]
+  holds 'compile, a signal while it searches: no other folder is read' [ "$(cat err)" = . ]
+  holds 'compile, a signal while it searches: nothing is compiled' is_absent search/d/fr.mo
+  tested=$of_sources under=()
+else
+  skipped 'compile, a system unlike this one' "it can't be linked: $(tail -n 1 gcc)"
+fi
+
+# --- signals and GNU msgfmt ----------------------------------------------------------------------------------------------------
+
+script blocked "sed -n 's/^SigBlk:[[:space:]]*//p' /proc/\$\$/status >> '$room/mask'; exit 1"
+mkdir many
+for it in 1 2 3 4; do
+  { header UTF-8 fr && for number in $(seq 3000); do printf 'msgid "message %d"\nmsgstr "text"\n\n' "$number"; done &&
+    printf 'msgid "a\\x41"\nmsgstr "b"\n'; } > "many/l$it.po"
+done
+GNU_MSGFMT=$room/blocked run -q -j 2 many
+holds 'compile, GNU msgfmt runs with no signal blocked' [ "$(sort -u mask)" = 0000000000000000 ]
+if [ -z "$gnu" ]; then
+  skipped 'compile, what only GNU msgfmt compiles' 'there is no GNU msgfmt'
+elif ! env --ignore-signal=CHLD true 2> env; then
+  skipped 'compile, SIGCHLD is ignored' 'env has no option --ignore-signal'
+else
+  po ignored/fr.po fr a && printf '\nmsgid "a\\x41"\nmsgstr "b"\n' >> ignored/fr.po
+  under=(env --ignore-signal=CHLD)
+  says 'compile, SIGCHLD is ignored: GNU msgfmt compiles' 0 '' -q ignored
+  under=()
+  mkdir nothing && printf 'msgid "a\\x41"\nmsgstr ""\n' > nothing/fr.po && : > nothing/none.po
+  says 'compile, GNU msgfmt writes no file of a text without a translation' 0 '' -q nothing
+  holds 'compile, then the file is that of no entry' is_as_msgfmt nothing/fr.mo nothing/none.po
+fi
