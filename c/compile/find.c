@@ -177,7 +177,7 @@ static void look_at_language(struct search *search, int folder, const char *path
 static void look_at_linguas(struct search *search, int folder, const char *path) {
     char *name = path_of(path, "LINGUAS"), *bytes = NULL, *save = NULL;
     size_t len = 0;
-    int file = openat(folder, "LINGUAS", O_RDONLY | O_CLOEXEC | O_NOCTTY);
+    int file = openat(folder, "LINGUAS", O_RDONLY | O_CLOEXEC | O_NOCTTY | O_NONBLOCK); /* (it may be a pipe) */
     if (file < 0 || !(bytes = read_all(file, &len)))
         cannot(search, "read", name, errno);
     if (file >= 0)

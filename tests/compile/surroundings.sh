@@ -35,6 +35,11 @@ done
 (cd names/po && "$tested" -q --force . ./fr.po) > out 2> err
 holds 'compile, the name . and a file in it' is_as_msgfmt names/po/fr.mo names/po/fr.po
 
+mkdir pipe && mkfifo pipe/LINGUAS && po pipe/fr.po fr a
+under=(timeout $((20 * slower)))
+says 'compile, a LINGUAS that is a pipe: it is not waited for' 2 'kob-compile: no PO file found; name a folder or files' pipe
+under=()
+
 # --- what this machine isn't -------------------------------------------------------------------------------------------------
 
 if (cd "$top" && PROGRAM=kob-compile tools/build_driver "$room/dynamic" -g &&

@@ -187,3 +187,15 @@ if [ "$(id -u)" = 0 ] && "$top/tests/lib/needs" unshare util-linux &&
 else
   skipped 'driver, a full disk' 'only root can mount a small one, and may not here'
 fi
+
+# --- a caller that ignores SIGCHLD ---------------------------------------------------------------------------------------
+
+if ! env --ignore-signal=CHLD true 2> env; then
+  skipped 'driver, SIGCHLD is ignored' 'env has no option --ignore-signal'
+else
+  under=(env --ignore-signal=CHLD)
+  drive --version
+  if [ "$status" = 0 ] && [ ! -s err ]; then ok 'driver, SIGCHLD is ignored'
+  else failed 'driver, SIGCHLD is ignored' "status $status; it said '$(head -c 300 err)'"; fi
+  under=()
+fi
