@@ -30,7 +30,7 @@ says 'compile, a link into a folder that is not there' 3 \
 
 po names/po/fr.po fr a
 for it in ./names/po/fr.po names//po/fr.po names/./po/fr.po ./names/.//po/ .//names; do
-  says "compile, the name $it" 0 '' --force -o out -d x "$it" names/po
+  says "compile, the name $it" 0 '' --force -o placed -d x "$it" names/po
 done
 (cd names/po && "$tested" -q --force . ./fr.po) > out 2> err
 holds 'compile, the name . and a file in it' is_as_msgfmt names/po/fr.mo names/po/fr.po
@@ -55,7 +55,7 @@ if (cd "$top" && PROGRAM=kob-compile tools/build_driver "$room/dynamic" -g &&
   holds 'compile, new files belong to another user: no leftover' has_no_leftover squashed
   mkdir -p search/a/b search/c && po search/d/fr.po fr a
   under=(env STOPPED=1 "LD_PRELOAD=$room/surroundings.so")
-  run search
+  run search 2> shell # (which says how it ended)
   holds 'compile, a signal while it searches: it ends by it' [ "$status" = 143 ]
   holds 'compile, a signal while it searches: no other folder is read' [ "$(cat err)" = . ]
   holds 'compile, a signal while it searches: nothing is compiled' is_absent search/d/fr.mo
@@ -66,7 +66,8 @@ fi
 
 # --- signals and GNU msgfmt ----------------------------------------------------------------------------------------------------
 
-script blocked "sed -n 's/^SigBlk:[[:space:]]*//p' /proc/\$\$/status >> '$room/mask'; exit 1"
+# (a shell that starts a program blocks all signals for a moment)
+script blocked "exec sed -n 's/^SigBlk:[[:space:]]*//p' /proc/self/status >> '$room/mask'"
 mkdir many
 for it in 1 2 3 4; do
   { header UTF-8 fr && for number in $(seq 3000); do printf 'msgid "message %d"\nmsgstr "text"\n\n' "$number"; done &&
