@@ -2,6 +2,7 @@
 from __future__ import annotations
 
 import hashlib
+import os
 import threading
 import unittest
 import uuid
@@ -76,6 +77,21 @@ class LogTest(LogCase):
         self.assertEqual(until(lambda: follower.trouble), str(caught.exception))
         self.log.init()
         self.assertEqual(follower.wait_for(self.log.publish(loads(1)), 100), 2)
+
+    def test_a_database_without_an_encoding(self) -> None:
+        """As initdb makes it if LANG isn't set. What the environment asks for changes nothing."""
+        self.sql("drop database if exists bytes with (force)")
+        self.sql("create database bytes template template0 encoding 'SQL_ASCII'")
+        address = self.address.replace("dbname=postgres", "dbname=bytes")
+        with mock.patch.dict(os.environ, PGCLIENTENCODING="SQL_ASCII"), Log(address) as log:
+            log.init()
+            version = log.publish(loads(1), note="zdjęcia")
+            self.assertEqual([(row.version, row.note, row.pairs) for row in log.history()],
+                             [(version, "zdjęcia", ["app/fr", "mail/fr"])])
+            with Follower(Catalogues(), address, "żółw") as follower:
+                self.assertEqual(follower.wait_for(version.token, 100), version)
+                self.assertEqual(self.text(follower), "k1 at 1")
+                until(lambda: [(it.name, it.version) for it in log.status().machines] == [("żółw", version)])
 
     def test_two_publishers_at_once(self) -> None:
         versions: list[list[int]] = [[], []]

@@ -213,7 +213,8 @@ def resolved(host: str, wake: int, end: float) -> list[str]:
 
 def session(server: Server, given: dict[str, str], attributes: str, wake: int, end: float) -> Watched:
     """Connect to one server, and check that its session has the attributes."""
-    own = {**given, "host": server.host, "hostaddr": server.address, "port": server.port, "target_session_attrs": "any"}
+    own = {**given, "host": server.host, "hostaddr": server.address, "port": server.port, "target_session_attrs": "any",
+           "client_encoding": "UTF8"}  # (a database in SQL_ASCII would give bytes for texts)
     own.pop("load_balance_hosts", None)
     text = conninfo.make_conninfo("", **{name: value for name, value in own.items() if value})
     connection = Watched(started(server, text, wake, end))
