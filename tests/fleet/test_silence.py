@@ -468,6 +468,18 @@ class ThreadTest(LogCase):
             self.assertLess(proxy.accepted, 14)
             proxy.close()
 
+    def test_looks_become_rare(self) -> None:
+        """A log whose epoch is another one at each look isn't asked without a pause."""
+        version = self.log.publish(loads(1))
+        with (mock.patch.object(_player, "epochs_of", return_value=[("0" * 16, 0)]),
+              mock.patch.object(_player.Player, "_last", autospec=True, side_effect=_player.Player._last) as last):
+            begun, follower = time.monotonic(), self.follower()
+            until(lambda: last.call_count)
+            time.sleep(2)
+            self.assertLess(last.call_count, 3 + 8 * (time.monotonic() - begun))
+            self.assertFalse(follower.has_joined)
+        self.assertEqual(follower.wait_for(version, 100), version)
+
     def test_a_later_layout(self) -> None:
         self.log.publish(loads(1))
         self.sql("update kobdzila.log set layout = 99")

@@ -39,6 +39,7 @@ PART = 16 << 20  # bytes of MO files that a Session takes in one round while a m
 BEAT_WITHIN = 5.0  # seconds in which a heartbeat has to be answered
 FILL_EACH = 5.0
 LOOK_WITHIN = 60.0  # seconds without a byte of an answer to a look
+RESTORED_PAUSE = 0.2  # seconds before the next look if the log's epoch changed during one
 
 
 class Difference(Exception):
@@ -198,7 +199,8 @@ class Player:
         names = [epoch for epoch, _ in epochs_of(connection)]
         head, played = self._last(connection, 0 if anew else self.position.version)
         if names[-1:] != [head.epoch] or self.position.version and not anew and head.epoch != self.position.epoch:
-            return True  # (the log was restored meanwhile)
+            time.sleep(RESTORED_PAUSE)  # (the log was restored meanwhile)
+            return True
         wanted = [it for it in played if self._shown.get((it.domain, it.locale)) != it.sum]
         if anew:
             wanted += emptied(self._shown.keys() - {(it.domain, it.locale) for it in played})
