@@ -233,6 +233,15 @@ class SharedTest(LogCase):
     """Publishers that share a Log, or wait for each other."""
 
     def test_threads_share_a_log(self) -> None:
+        self.check_threads()
+
+    def test_threads_share_a_log_in_a_database_of_another_isolation(self) -> None:
+        """A publisher sees what was added while it waited for the lock."""
+        self.sql("alter database postgres set default_transaction_isolation = 'repeatable read'")
+        self.addCleanup(self.sql, "alter database postgres reset default_transaction_isolation")
+        self.check_threads()
+
+    def check_threads(self) -> None:
         answers: dict[uuid.UUID, int] = {}
         failures: Counter[str] = Counter()
 

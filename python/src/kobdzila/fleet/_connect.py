@@ -220,6 +220,8 @@ def session(server: Server, given: dict[str, str], attributes: str, wake: int, e
     connection = Watched(started(server, text, wake, end))
     try:
         connection.autocommit = True
+        # (whoever has waited for the log's lock has to see what was added meanwhile)
+        connection.isolation_level = psycopg.IsolationLevel.READ_COMMITTED
         connection.prepare_threshold = None  # (a pooler gives each statement another session)
         connection.server, connection.wake, connection.end = server, wake, end
         row = connection.execute(SESSION).fetchone()
