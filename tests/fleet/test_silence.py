@@ -6,11 +6,14 @@ import os
 import shutil
 import signal
 import subprocess
+import tempfile
 import threading
 import time
 import unittest
 import uuid
 from collections import Counter
+from collections.abc import Iterator
+from pathlib import Path
 from typing import Any
 from unittest import mock
 
@@ -133,6 +136,58 @@ class HostsTest(LogCase):
         """A query that is compiled costs the server more than it does, for each of the machines that wake at once."""
         with _connect.connect(servers.shared().address, "any") as connection:
             self.assertEqual(connection.execute("show jit").fetchone()[0], "off")
+
+
+class ServiceTest(LogCase):
+    """Servers that a service file names: libpq reads it, and tries its hosts."""
+
+    def service(self, *ports: int) -> None:
+        """Write a service `texts` of servers on these ports."""
+        folder = tempfile.TemporaryDirectory()
+        self.addCleanup(folder.cleanup)
+        path = Path(folder.name, "services")
+        hosts, named = ",".join("127.0.0.1" for _ in ports), ",".join(map(str, ports))
+        path.write_text(f"[texts]\nhost={hosts}\nport={named}\nuser=postgres\ndbname=postgres\n", encoding="utf-8")
+        environment = mock.patch.dict(os.environ, PGSERVICEFILE=str(path))
+        environment.start()
+        self.addCleanup(environment.stop)
+
+    def each_way(self) -> Iterator[str]:
+        """Name the service in the connection string, and then in the environment."""
+        yield "service=texts"
+        with mock.patch.dict(os.environ, PGSERVICE="texts", PGHOST="none.invalid", PGPORT="1"):
+            yield ""
+
+    def test_a_wait_asks_the_server_that_libpq_has_found(self) -> None:
+        port = servers.shared().port
+        self.service(port)
+        for database in self.each_way():
+            with (self.subTest(database), mock.patch.object(_connect, "PROBE_AFTER", 0.2),
+                  _connect.connect(database, "read-write") as connection):
+                self.assertEqual(connection.execute("select 1 from pg_sleep(0.7)").fetchone(), (1,))
+                self.assertEqual(str(connection.peer), f"127.0.0.1:{port}")
+
+    def test_the_host_that_takes_writes_is_found(self) -> None:
+        with servers.primary("default_transaction_read_only = on") as other:
+            self.service(other.port, servers.shared().port)
+            for number, database in enumerate(self.each_way(), 1):
+                with self.subTest(database), Log(database) as log:
+                    self.assertEqual(log.publish(loads(number), within=20), 2 * number)
+
+    @unittest.skipUnless(psycopg.pq.version() >= 140000, "libpq before 14 doesn't know a primary")
+    def test_the_primary_is_found(self) -> None:
+        with servers.pair() as (first, second):
+            self.service(second.port, first.port)
+            for database in self.each_way():
+                with self.subTest(database), _connect.connect(database, "primary") as connection:
+                    self.assertEqual(connection.info.port, first.port)
+
+    def test_hosts_of_the_string_come_first(self) -> None:
+        self.service(1)
+        with mock.patch.dict(os.environ, PGSERVICE="texts"), Log(self.address) as log:
+            self.assertEqual(log.publish(loads(1), within=20), 2)
+            found = _connect.servers_of(_connect.parameters("host=::1,::2"), -1, math.inf, 5.0, [])
+            self.assertEqual([it.host for it in found], ["::1", "::2"])
 
 
 class SilenceTest(LogCase):

@@ -28,6 +28,9 @@ LAST_WORDS = 0.5  # seconds that a query may still take when its thread is to en
 SILENT_FOR = 60.0  # for so long a host that was silent is tried after the others
 ENVIRONMENT = {"host": "PGHOST", "hostaddr": "PGHOSTADDR", "port": "PGPORT", "connect_timeout": "PGCONNECT_TIMEOUT",
                "target_session_attrs": "PGTARGETSESSIONATTRS", "load_balance_hosts": "PGLOADBALANCEHOSTS"}
+PLACES = ("host", "hostaddr", "port")
+# What libpq can look for itself, among the hosts of a service
+FOUND_BY_LIBPQ = ("any", "read-write", *(("primary", "standby", "read-only") if pq.version() >= 140000 else ()))
 USUAL = {"keepalives_idle": "10", "keepalives_interval": "3", "keepalives_count": "3", "tcp_user_timeout": "10000",
          "application_name": "kob-fleet"}
 SSL_REQUEST = struct.pack("!II", 8, 80877103)  # which every server answers by one byte
@@ -72,7 +75,7 @@ class Watched(psycopg.Connection[Any]):
     end = math.inf
     limit = math.inf
     wake = -1
-    server = Server("", "", "")
+    server = peer = Server("", "", "")  # as it is named, and where libpq has found it
     is_standby = is_read_only = is_pooled = False
     is_unreplicated = False  # the server has ended a wait for its standby
 
@@ -102,12 +105,12 @@ class Watched(psycopg.Connection[Any]):
                 self.wake = -1
             elif now >= end:
                 late = "in time" if now >= self.end else f"in {now - begun:.1f} s"
-                raise Silent(f"{self.server} hasn't answered {late}")
+                raise Silent(f"{self.peer} hasn't answered {late}")
             elif now >= probe_at:
                 within = min(PROBE_WITHIN, max(0.0, end - now))
-                if not is_there(self.server, within, self.wake) and time.monotonic() < end:
+                if not is_there(self.peer, within, self.wake) and time.monotonic() < end:
                     note_silence(self.server)
-                    raise Silent(f"{self.server} says nothing")
+                    raise Silent(f"{self.peer} says nothing")
                 probe_at = time.monotonic() + PROBE_AFTER
 
 
@@ -151,10 +154,18 @@ def connect(
 
 
 def parameters(database: str) -> dict[str, str]:
-    """Return the parameters of a connection string: its own, then those of the environment, then ours."""
+    """Return the parameters of a connection string: its own, then those of the environment, then ours.
+
+    A service of the environment counts if the string names no host. libpq reads its file, which comes before the
+    environment.
+    """
     given = {name: str(value) for name, value in conninfo.conninfo_to_dict(database).items() if value is not None}
     named = {name: os.environ[variable] for name, variable in ENVIRONMENT.items() if os.environ.get(variable)}
-    return {**USUAL, **({} if "service" in given else named), **given}
+    if not given.keys() & {"host", "hostaddr"} and os.environ.get("PGSERVICE"):
+        given.setdefault("service", os.environ["PGSERVICE"])
+    if "service" in given:
+        named = {name: value for name, value in named.items() if name not in PLACES}
+    return {**USUAL, **named, **given}
 
 
 def servers_of(given: dict[str, str], wake: int, end: float, within: float, failures: list[str]) -> Iterator[Server]:
@@ -213,7 +224,9 @@ def resolved(host: str, wake: int, end: float) -> list[str]:
 
 def session(server: Server, given: dict[str, str], attributes: str, wake: int, end: float) -> Watched:
     """Connect to one server, and check that its session has the attributes."""
-    own = {**given, "host": server.host, "hostaddr": server.address, "port": server.port, "target_session_attrs": "any",
+    wanted = attributes if "service" in given and attributes in FOUND_BY_LIBPQ else "any"
+    own = {**given, "host": server.host, "hostaddr": server.address, "port": server.port,
+           "target_session_attrs": wanted,
            "client_encoding": "UTF8"}  # (a database in SQL_ASCII would give bytes for texts)
     own.pop("load_balance_hosts", None)
     text = conninfo.make_conninfo("", **{name: value for name, value in own.items() if value})
@@ -224,6 +237,8 @@ def session(server: Server, given: dict[str, str], attributes: str, wake: int, e
         connection.isolation_level = psycopg.IsolationLevel.READ_COMMITTED
         connection.prepare_threshold = None  # (a pooler gives each statement another session)
         connection.server, connection.wake, connection.end = server, wake, end
+        info = connection.info
+        connection.peer = Server(info.host, server.address or info.hostaddr, str(info.port))
         row = connection.execute(SESSION).fetchone()
         assert row is not None
         connection.is_standby, connection.is_read_only = row[0], row[1]

@@ -411,7 +411,7 @@ class Log(Closing):
                 row = connection.execute(
                     "select current_setting('synchronous_standby_names') from pg_stat_activity"
                     " where pid = %s and wait_event = 'SyncRep'", (process,)).fetchone()
-                server = connection.server
+                server = connection.peer
         except psycopg.Error:
             return None
         return row and (f"{server} waits for its synchronous standby (synchronous_standby_names = {row[0]!r}), which hasn't "
