@@ -12,6 +12,7 @@ from wsgiref.validate import validator
 
 from kobdzila.fleet import ASGIMiddleware, Follower, Version, WSGIMiddleware
 from kobdzila.fleet._queries import Played
+from kobdzila.fleet._web import MOST_WAITING
 from stores import PAIRS, Catalogues, mo, until
 
 
@@ -159,6 +160,32 @@ class ASGITest(Case):
             self.assertEqual([value for name, value in headers if name == b"kobdzila-version"][-1],
                              f"{EPOCH}.{version}".encode())
             self.assertTrue(dict(headers)[b"set-cookie"].startswith(f"kobdzila_version={EPOCH}.{version};".encode()))
+
+    def test_waiting_takes_no_threads(self) -> None:
+        """Somebody else's work isn't held up, more requests than may wait are answered at once, and one that is
+        cancelled makes room."""
+        self.shows(1)
+        app = ASGIMiddleware(async_page, self.follower, within=10)
+        scope = {"type": "http", "headers": [(b"kobdzila-version", b"4")]}
+
+        async def status() -> int:
+            send = mock.AsyncMock()
+            await app(scope, mock.AsyncMock(), send)
+            return int(send.await_args_list[0].args[0]["status"])
+
+        async def main() -> None:
+            requests = [asyncio.create_task(status()) for _ in range(MOST_WAITING + 8)]
+            await asyncio.wait_for(asyncio.to_thread(lambda: None), 5)
+            self.assertEqual([it.result() for it in requests if it.done()], [503] * 8)
+            waiting = [it for it in requests if not it.done()]
+            waiting[0].cancel()
+            await asyncio.sleep(0.1)
+            waiting[0] = asyncio.create_task(status())
+            await asyncio.to_thread(self.shows, 2)
+            self.assertEqual(await asyncio.gather(*waiting), [200] * MOST_WAITING)
+            self.assertEqual(getattr(app._waiting, "_value"), MOST_WAITING)
+
+        asyncio.run(main())
 
     def test_what_is_not_http(self) -> None:
         self.assertEqual(self.answers({}, "lifespan")[::2], (200, "none"))

@@ -18,6 +18,7 @@ from psycopg import conninfo
 
 from .._closing import Closing
 from .._session import Session
+from .._waiting import Waiters
 from ._cache import Cache, CacheRefused
 from ._connect import Interrupted, Silent, Watched, connect, note_silence, parameters, polled, set_for_session
 from ._health import Health, health_of
@@ -83,7 +84,6 @@ class Follower(Closing):
         self._on_version, self._on_trouble = on_version, on_trouble
         self._player = Player(store, None if cache is None else Cache(cache, self.machine), go_over)
         self._reporter = Reporter(self.machine, report_to or primary_of(database))
-        self._changed = threading.Condition()
         self._trouble: str | None = None
         self._cache_trouble: str | None = None
         self._stopped: Exception | None = None
@@ -96,7 +96,9 @@ class Follower(Closing):
         FOLLOWERS.add(self)
 
     def _begin(self) -> None:
-        """Make what belongs to one process: the pipe that ends the thread's waits, and the thread."""
+        """Make what belongs to one process: who waits for a version, the pipe that ends the thread's waits, and the
+        thread."""
+        self._changed, self._waiters = threading.Condition(), Waiters()
         self._woken, self._waker = os.pipe()
         self._thread = threading.Thread(target=self._run, name=f"fleet-{self.machine}", daemon=True)
 
@@ -179,6 +181,13 @@ class Follower(Closing):
             with self._changed:
                 if not self._changed.wait_for(lambda: self._player.shows(wanted), within):
                     raise Behind(self.version, wanted, self._trouble)
+        return self.version
+
+    async def wait_for_async(self, at_least: int | str = 0, within: float = 0.5) -> Version:
+        """Do what `wait_for` does. Only this coroutine waits; it blocks neither the event loop nor a thread."""
+        wanted = version_of(at_least)
+        if not await self._waiters.wait_for(lambda: self._player.shows(wanted), within):
+            raise Behind(self.version, wanted, self._trouble)
         return self.version
 
     def snapshot(self, *, at_least: int | str = 0, within: float = 0.5, **options: Any) -> FollowerSnapshot:
@@ -313,6 +322,7 @@ class Follower(Closing):
         """Wake those who wait for a version."""
         with self._changed:
             self._changed.notify_all()
+        self._waiters.wake()
         self._call(self._on_version, self.version)
 
     def _join_from_cache(self) -> None:
@@ -388,7 +398,6 @@ class Follower(Closing):
             self._connection = None
         os.close(self._woken)
         os.close(self._waker)
-        self._changed = threading.Condition()
         self._player.forked()
         self._reporter.forked()
         self._begin()

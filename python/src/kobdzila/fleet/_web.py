@@ -1,7 +1,6 @@
 """Middleware for WSGI and ASGI: each request gets a snapshot no older than what its visitor has seen."""
 from __future__ import annotations
 
-import asyncio
 import contextlib
 import inspect
 import threading
@@ -194,14 +193,19 @@ class ASGIMiddleware(Middleware[ASGIApplication]):
             await self.app({**scope, KEY: snapshot}, receive, sends)
 
     async def _made(self, scope: Message) -> FollowerSnapshot | None:
-        """Return a snapshot for a request, without blocking the event loop."""
+        """Return a snapshot for a request, without blocking the event loop or a thread of its executor."""
         def named(wanted: bytes, joint: str) -> str:
             return joint.join(value.decode("latin-1") for name, value in scope["headers"] if name.lower() == wanted)
 
         at_least = self.wanted(named(HEADER.lower().encode(), ","), named(b"cookie", "; "))
         accepted = named(b"accept-language", ",")
-        made = self._taken(at_least, 0, accepted) if self.is_ready(at_least) else None
-        return made or await asyncio.to_thread(self.snapshot, at_least, accepted)
+        if not self.is_ready(at_least) and self._waiting.acquire(blocking=False):
+            try:
+                with contextlib.suppress(Behind):
+                    await self.follower.wait_for_async(at_least, self.within)
+            finally:
+                self._waiting.release()
+        return self._taken(at_least, 0, accepted)
 
     async def _refuse(self, scope: Message, send: Send) -> None:
         if scope["type"] == "websocket":
