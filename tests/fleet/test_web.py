@@ -110,6 +110,19 @@ class WSGITest(Case):
         asyncio.run(ASGIMiddleware(async_page, self.follower, "shop")(scope, mock.AsyncMock(), mock.AsyncMock()))
         self.assertEqual(asked, [("fr, de;q=0.5", "shop"), ("fr,de", "shop")])
 
+    def test_other_cookies(self) -> None:
+        """Whatever another cookie looks like, that of the version is read, and of several the latest."""
+        made = WSGIMiddleware(page, self.follower)
+        cookie = f"kobdzila_version={EPOCH}.9"
+        for others in ("a=b", 'prefs={"theme":"dark"}', "who=Ann Lee", "list[0]=1", "path=/x", "version=2", "flag",
+                       "name=caf\xe9", 'half="', "a==b", "", "kobdzila_version=x", f"kobdzila_version={EPOCH}.8"):
+            for cookies in (f"{others}; {cookie}", f"{cookie}; {others}", f"{others};{cookie};{others}"):
+                self.assertEqual(made.wanted("", cookies).token, f"{EPOCH}.9", cookies)
+        self.assertEqual(made.wanted("", f'kobdzila_version="{EPOCH}.9"').token, f"{EPOCH}.9")
+        self.assertEqual(made.wanted(" 9 ", "kobdzila_version=8").token, "9")
+        for cookies in (f"x{cookie}", f"a={cookie}", "kobdzila_version", "kobdzila_version=-1", "=9", "9"):
+            self.assertEqual(made.wanted("", cookies), 0, cookies)
+
     def test_few_wait(self) -> None:
         self.shows(1)
         made = WSGIMiddleware(page, self.follower, within=60)

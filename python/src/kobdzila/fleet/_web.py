@@ -6,7 +6,6 @@ import inspect
 import threading
 from collections.abc import Awaitable, Callable, Iterable, Iterator, MutableMapping
 from http import HTTPStatus
-from http.cookies import CookieError, SimpleCookie
 from typing import Any, Generic, TypeVar
 
 from ._follow import Follower
@@ -61,13 +60,14 @@ class Middleware(Generic[App]):
         self._varies = [*(["Accept-Language"] if self._takes_languages else []), "Cookie", HEADER]
 
     def wanted(self, header: str, cookies: str) -> Version:
-        """Return the version that a request has seen, or 0."""
-        read: SimpleCookie[str] = SimpleCookie()
-        with contextlib.suppress(CookieError):
-            read.load(cookies)
-        morsel = read.get(self.cookie)
-        texts = (header.strip(), morsel.value if morsel else "")
-        return self.latest(*map(parsed, texts))
+        """Return the version that a request has seen, or 0.
+
+        Cookies are split as RFC 6265, section 5.4, joins them. SimpleCookie refuses all of them if one has a space or a
+        quote.
+        """
+        pairs = (it.partition("=") for it in cookies.split(";"))
+        seen = [value.strip().strip('"') for name, _, value in pairs if name.strip() == self.cookie]
+        return self.latest(*map(parsed, [header, *seen]))
 
     def latest(self, *versions: Version) -> Version:
         """Return the greatest version of the latest epoch: one that isn't a past epoch of this machine."""
