@@ -2,14 +2,17 @@
 from __future__ import annotations
 
 import asyncio
+import itertools
 import threading
 import time
 import unittest
+from collections.abc import Iterator
 from typing import Any
 from unittest import mock
 from wsgiref.util import setup_testing_defaults
 from wsgiref.validate import validator
 
+import kobdzila
 from kobdzila.fleet import ASGIMiddleware, Follower, Version, WSGIMiddleware
 from kobdzila.fleet._queries import Played
 from kobdzila.fleet._web import MOST_WAITING
@@ -28,14 +31,18 @@ async def async_page(scope: Any, receive: Any, send: Any) -> None:
 
 
 EPOCH = "0123456789abcdef"
+TITLE = kobdzila.lazy_gettext("k1")
 
 
 class Case(unittest.TestCase):
     within = 0.3
 
     def setUp(self) -> None:
-        self.follower = Follower(Catalogues(), "host=none.invalid")  # (it isn't started)
+        self.follower = Follower(self.store(), "host=none.invalid")  # (it isn't started)
         self.addCleanup(self.follower.close)
+
+    def store(self) -> Any:
+        return Catalogues()
 
     def shows(self, number: int) -> None:
         """The follower plays a publish."""
@@ -51,7 +58,7 @@ class Case(unittest.TestCase):
         self.shows(1)
         status, headers, text = answers({})
         self.assertEqual((status, headers["kobdzila-version"], text), (200, f"{EPOCH}.2", "k1 at 1"))
-        self.assertEqual(headers["vary"], "Cookie, Kobdzila-Version")
+        self.assertEqual((headers["vary"], headers.get("content-language")), ("Cookie, Kobdzila-Version", None))
         cookie = headers["set-cookie"].partition(";")[0]
         self.assertEqual(cookie, f"kobdzila_version={EPOCH}.2")
         for seen in ({"cookie": f"a=b; {cookie}"}, {"kobdzila-version": "2"}, {"cookie": "kobdzila_version=x"},
@@ -218,6 +225,74 @@ class ASGITest(Case):
             asyncio.run(ASGIMiddleware(application, self.follower, within=0.1)(scope, mock.AsyncMock(), send))
             self.assertEqual([call.args[0]["type"] for call in send.await_args_list], [sent])
             self.assertEqual(seen, [2] if version == "2" else [])
+
+
+class CurrentTest(Case):
+    """A store that takes languages: its snapshot is the current one of the request, as with kobdzila's middleware."""
+
+    VARY = "Accept-Language, Cookie, Kobdzila-Version"
+
+    def store(self) -> Any:
+        return kobdzila.Store("app")
+
+    def setUp(self) -> None:
+        super().setUp()
+        self.shows(1)
+        self.assertEqual(str(TITLE), "k1")
+        self.addCleanup(lambda: self.assertEqual(str(TITLE), "k1"))
+
+    def test_lazy_texts_of_a_list(self) -> None:
+        start = mock.Mock()
+        environ = {"HTTP_ACCEPT_LANGUAGE": "fr-CA"}
+        for written, lang in (([], "fr"), ([("content-language", "de")], "de")):
+            def application(environ: Any, start_response: Any) -> list[bytes]:
+                start_response("200 OK", written)
+                return [str(TITLE).encode()]
+
+            body = WSGIMiddleware(application, self.follower)(environ, start)
+            self.assertEqual(b"".join(body), b"k1 at 1")
+            headers = [(name.lower(), text) for name, text in start.call_args.args[1]]
+            self.assertEqual([text for name, text in headers if name == "content-language"], [lang])
+            self.assertEqual(dict(headers)["vary"], self.VARY)
+
+    def test_lazy_texts_of_pieces(self) -> None:
+        said: list[str] = []
+
+        class Pieces:
+            def __iter__(self) -> Iterator[bytes]:
+                for _ in range(2):
+                    yield str(TITLE).encode()
+
+            def close(self) -> None:
+                said.append(str(TITLE))
+
+        def application(environ: Any, start_response: Any) -> Any:
+            start_response("200 OK", [])
+            return Pieces()
+
+        for count in (3, 1):  # (the second reader goes before the end)
+            body: Any = WSGIMiddleware(application, self.follower)({"HTTP_ACCEPT_LANGUAGE": "fr"}, mock.Mock())
+            for block in itertools.islice(body, count):
+                self.assertEqual((block, str(TITLE)), (b"k1 at 1", "k1"))
+            body.close()
+        self.assertEqual(said, ["k1 at 1"] * 2)
+
+    def test_lazy_texts_in_asgi(self) -> None:
+        async def application(scope: Any, receive: Any, send: Any) -> None:
+            await send({"type": "http.response.start", "status": 200, "headers": []})
+            await send({"type": "http.response.body", "body": str(TITLE).encode()})
+
+        async def main() -> list[Any]:
+            send = mock.AsyncMock()
+            scope = {"type": "http", "headers": [(b"accept-language", b"fr")]}
+            await ASGIMiddleware(application, self.follower)(scope, mock.AsyncMock(), send)
+            self.assertEqual(str(TITLE), "k1")
+            return [call.args[0] for call in send.await_args_list]
+
+        begun, body = asyncio.run(main())
+        headers = dict(begun["headers"])
+        self.assertEqual((body["body"], headers[b"content-language"], headers[b"vary"]),
+                         (b"k1 at 1", b"fr", self.VARY.encode()))
 
 
 if __name__ == "__main__":

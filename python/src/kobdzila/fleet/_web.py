@@ -8,6 +8,7 @@ from collections.abc import Awaitable, Callable, Iterable, Iterator, MutableMapp
 from http import HTTPStatus
 from typing import Any, Generic, TypeVar
 
+from .._web import Body, current, described
 from ._follow import Follower
 from ._store import Behind, FollowerSnapshot
 from ._version import Version
@@ -45,7 +46,9 @@ class Middleware(Generic[App]):
     A request for the path `health` is answered with the follower's health as JSON: with status 200 if the machine has
     translations, and 503 if not.
 
-    If the store's `snapshot` takes languages, they come from the Accept-Language header, and `domain` is its domain.
+    If the store's `snapshot` takes languages, they come from the Accept-Language header, and `domain` is its domain. It
+    is then also the current snapshot of the request, which lazy messages use, and the response gets a Content-Language
+    header, unless the application has set one.
     """
 
     def __init__(
@@ -97,6 +100,10 @@ class Middleware(Generic[App]):
                 return self.follower.snapshot(at_least=version, within=within, **options)
         return self.follower.unjoined(**options) if self.serve_older and self.follower.store.version else None
 
+    def as_current(self, snapshot: Any) -> contextlib.AbstractContextManager[None]:
+        """Make a snapshot the current one in a `with`, if its look-ups need no language."""
+        return current(snapshot) if self._takes_languages else contextlib.nullcontext()
+
     def headers(self, snapshot: FollowerSnapshot, written: Iterable[tuple[str, str]]) -> list[tuple[str, str]]:
         """Return the headers of a response for which the application has set these."""
         versions, others, varies = [snapshot.version], [], [*self._varies]
@@ -110,7 +117,8 @@ class Middleware(Generic[App]):
         token = self.latest(*versions).token
         kept = f"{self.cookie}={token}; Max-Age={COOKIE_SECONDS}; Path=/; SameSite=Lax; HttpOnly"
         older = [(OLDER, "1")] if snapshot.is_older else []
-        return [*others, (HEADER, token), *older, ("Vary", joined(varies)), ("Set-Cookie", kept)]
+        made = [*others, (HEADER, token), *older, ("Vary", joined(varies)), ("Set-Cookie", kept)]
+        return described(made, (), getattr(snapshot, "lang", None) if self._takes_languages else None)
 
     def refusal(self, path: str) -> tuple[int, list[tuple[str, str]], bytes]:
         """Return status, headers and body of the response if there is no snapshot, or if the path is that of the
@@ -155,14 +163,15 @@ class WSGIMiddleware(Middleware[Application]):
             def start(status: str, headers: list[tuple[str, str]], *more: Any) -> Any:
                 return start_response(status, self.headers(snapshot, headers), *more)
 
-            environ[KEY] = snapshot
-            body = self.app(environ, start)
+            texts: Any = snapshot  # (with the methods of the store's)
+            environ[KEY] = texts
+            with self.as_current(texts):
+                body = self.app(environ, start)
             try:
-                yield from body
+                yield from Body(body, texts) if self._takes_languages else body
             finally:
-                close = getattr(body, "close", None)
-                if close is not None:
-                    close()
+                with self.as_current(texts):
+                    getattr(body, "close", lambda: None)()
 
 
 class ASGIMiddleware(Middleware[ASGIApplication]):
@@ -181,7 +190,7 @@ class ASGIMiddleware(Middleware[ASGIApplication]):
         if made is None:
             await self._refuse(scope, send)
             return
-        with made as snapshot:
+        with made as snapshot, self.as_current(snapshot):
             async def sends(message: Message) -> None:
                 if message["type"] == "http.response.start":
                     written = ((name.decode("latin-1"), value.decode("latin-1"))
