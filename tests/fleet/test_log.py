@@ -52,6 +52,14 @@ class LogTest(LogCase):
                 self.log.publish(wrong)
         self.assertEqual((self.log.status().version, self.sql("select count(*) from kobdzila.file")), (0, [(0,)]))
 
+    def test_what_psycopg_refuses_is_not_tried_again(self) -> None:
+        troubles: list[str] = []
+        for address, note in (("hots=db1", ""), (self.address, "a\0b")):
+            with (Log(address, on_trouble=troubles.append) as log,
+                  self.assertRaises((psycopg.ProgrammingError, psycopg.DataError))):
+                log.publish(loads(1), note=note, within=3)
+        self.assertEqual((troubles, self.log.status().version), ([], 0))
+
     @unittest.skipUnless(has_catsession(), NO_SESSION)
     def test_names_are_those_of_a_session(self) -> None:
         with kobdzila.Session() as session:

@@ -389,7 +389,7 @@ class Log(Closing):
                 raise self._layout_refused(trouble) from trouble
             except psycopg.Error as trouble:
                 held = trouble if isinstance(trouble, Held) else held
-                if trouble.sqlstate is not None and not RETRIED.match(trouble.sqlstate):
+                if not may_pass(trouble):
                     raise
                 text = str(trouble).strip() or type(trouble).__name__
                 if isinstance(trouble, Silent) and doubts:
@@ -416,6 +416,13 @@ class Log(Closing):
             return None
         return row and (f"{server} waits for its synchronous standby (synchronous_standby_names = {row[0]!r}), which hasn't "
                         "answered: start that, or let the server not wait, by an empty name")
+
+
+def may_pass(trouble: psycopg.Error) -> bool:
+    """Whether another attempt may have another outcome."""
+    if trouble.sqlstate is None:  # (psycopg raises it: the connection was lost, or what it got can't be sent)
+        return not isinstance(trouble, (psycopg.ProgrammingError, psycopg.DataError))
+    return RETRIED.match(trouble.sqlstate) is not None
 
 
 def attempt(connection: Watched, work: Callable[[Watched], Version], end: float, doubts: list[str]) -> Version:
