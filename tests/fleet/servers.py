@@ -72,6 +72,14 @@ def free_port() -> int:
         return int(made.getsockname()[1])
 
 
+def has_ipv6() -> bool:
+    """Whether this machine has IPv6, if only for itself."""
+    with contextlib.suppress(OSError), socket.socket(socket.AF_INET6) as made:
+        made.bind(("::1", 0))
+        return True
+    return False
+
+
 def end_all(*_: object) -> None:
     """End all servers, remove their folders, and end this process: for a run that takes too long."""
     if os.getpid() == OWNER:

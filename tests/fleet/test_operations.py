@@ -226,12 +226,23 @@ class NumbersTest(CommandCase):
         self.assertEqual(len(kinds), len(set(kinds)))
 
     def test_over_http(self) -> None:
-        with _metrics.served(("127.0.0.1", 0), lambda: metrics(self.log.status())) as server:
+        self.check_http("127.0.0.1", "127.0.0.1")
+
+    @unittest.skipUnless(servers.has_ipv6(), "no IPv6")
+    def test_over_http_and_ipv6(self) -> None:
+        self.check_http("::1", "[::1]")
+
+    def check_http(self, host: str, written: str) -> None:
+        with _metrics.served((host, 0), lambda: metrics(self.log.status())) as server:
             threading.Thread(target=server.serve_forever, daemon=True).start()
-            with urllib.request.urlopen(f"http://127.0.0.1:{server.server_port}/metrics", timeout=10) as answer:
+            with urllib.request.urlopen(f"http://{written}:{server.server_port}/metrics", timeout=10) as answer:
                 self.assertEqual(answer.headers["Content-Type"], "text/plain; version=0.0.4; charset=utf-8")
                 self.assertIn(b"kobdzila_log_version", answer.read())
             server.shutdown()
+        with mock.patch.object(_metrics.ThreadingHTTPServer, "serve_forever", side_effect=KeyboardInterrupt):
+            status, _, said = self.command("metrics", "--listen", f"{written}:0")
+        self.assertEqual(status, 0)
+        self.assertRegex(said, rf"\Akob-fleet: metrics on http://{re.escape(written)}:[0-9]+/metrics\n\Z")
 
     def test_what_a_follower_counts(self) -> None:
         follower = self.follower()

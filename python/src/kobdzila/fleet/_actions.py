@@ -229,8 +229,9 @@ def print_metrics(options: argparse.Namespace) -> int:
         host, _, port = options.listen.rpartition(":")
         if not port.isdecimal():
             raise Misused(f"not of the form [HOST:]PORT: {options.listen}")
-        with served((host.strip("[]") or "127.0.0.1", int(port)), lambda: metrics(log.status())) as server:
-            say(f"metrics on http://{server.server_address[0]!s}:{server.server_port}/metrics")
+        host = host.strip("[]") or "127.0.0.1"
+        with served((host, int(port)), lambda: metrics(log.status())) as server:
+            say(f"metrics on http://{f'[{host}]' if ':' in host else host}:{server.server_port}/metrics")
             with contextlib.suppress(KeyboardInterrupt):
                 server.serve_forever()
     return 0

@@ -1,6 +1,7 @@
 """The log and its machines as numbers for Prometheus."""
 from __future__ import annotations
 
+import socket
 from collections.abc import Callable, Sequence
 from http.server import BaseHTTPRequestHandler, ThreadingHTTPServer
 
@@ -67,4 +68,7 @@ def served(address: tuple[str, int], text: Callable[[], str]) -> ThreadingHTTPSe
         def log_message(self, format: str, *words: object) -> None:
             """Log nothing."""
 
-    return ThreadingHTTPServer(address, Handler)
+    class Server(ThreadingHTTPServer):
+        address_family = socket.AF_INET6 if ":" in address[0] else socket.AF_INET
+
+    return Server(address, Handler)
