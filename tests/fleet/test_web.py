@@ -116,6 +116,8 @@ class WSGITest(Case):
         scope = {"type": "http", "headers": [(b"accept-language", b"fr"), (b"accept-language", b"de")]}
         asyncio.run(ASGIMiddleware(async_page, self.follower, "shop")(scope, mock.AsyncMock(), mock.AsyncMock()))
         self.assertEqual(asked, [("fr, de;q=0.5", "shop"), ("fr,de", "shop")])
+        # (a stranger's header is never a list of locales)
+        self.assertEqual({type(languages) for languages, _ in asked}, {kobdzila.AcceptLanguage})
 
     def test_other_cookies(self) -> None:
         """Whatever another cookie looks like, that of the version is read, and of several the latest."""

@@ -8,6 +8,7 @@ from collections.abc import Awaitable, Callable, Iterable, Iterator, MutableMapp
 from http import HTTPStatus
 from typing import Any, Generic, TypeVar
 
+from .._negotiation import AcceptLanguage
 from .._web import Body, current, described
 from ._follow import Follower
 from ._store import Behind, FollowerSnapshot
@@ -94,7 +95,7 @@ class Middleware(Generic[App]):
             self._waiting.release()
 
     def _taken(self, at_least: Version, within: float, accepted: str) -> FollowerSnapshot | None:
-        options = {"languages": accepted, "domain": self.domain} if self._takes_languages else {}
+        options = {"languages": AcceptLanguage(accepted), "domain": self.domain} if self._takes_languages else {}
         for version in [at_least, Version()] if self.serve_older else [at_least]:
             with contextlib.suppress(Behind):
                 return self.follower.snapshot(at_least=version, within=within, **options)
