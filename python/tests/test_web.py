@@ -251,9 +251,14 @@ class LifespanTest(unittest.TestCase):
     async def ignores(scope: Scope, receive: Any, send: Any) -> None:
         raise ValueError("this application answers HTTP alone")
 
+    @staticmethod
+    async def returns(scope: Scope, receive: Any, send: Any) -> None:
+        if scope["type"] != "http":
+            return
+
     def test_watch(self) -> None:
         """The catalogues are there before the application starts, and are watched until it has ended."""
-        for application in (self.knows, self.ignores):
+        for application in (self.knows, self.ignores, self.returns):
             self.store, self.said = Store("shop"), []
             asyncio.run(self.live(application, self.folder))
             self.assertEqual(self.said, [("lifespan.startup.complete", "panier", 1),
@@ -261,7 +266,7 @@ class LifespanTest(unittest.TestCase):
         self.assertEqual([it.name for it in threading.enumerate() if "kobdzila watches" in it.name], [])
 
     def test_no_folder(self) -> None:
-        for application in (self.knows, self.ignores):
+        for application in (self.knows, self.ignores, self.returns):
             self.said = []
             with self.assertRaises(FileNotFoundError):
                 asyncio.run(self.live(application, self.folder / "none"))

@@ -239,6 +239,7 @@ class ASGIMiddleware(Middleware):
             except Exception:
                 if asked:
                     raise
+            if not asked:
                 for answer in ("lifespan.startup.complete", "lifespan.shutdown.complete"):
                     await receives()
                     await send({"type": answer})
