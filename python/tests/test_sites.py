@@ -139,22 +139,68 @@ assert get("fr") == french("cabas")
 print("well")
 '''
 
-# a Flask-Babel application with the three lines of the guide
+# a Flask-Babel application with the three lines of the guide; `later` lets Flask-Babel 2 be as later ones are
 FLASK = r'''
 import os, sys, time
+from functools import cached_property
 from pathlib import Path
 
 sys.path[:0] = sys.argv[1].split("|")
-FOLDER, PO = Path(sys.argv[2]), sys.argv[3]
+FOLDER, PO, IS_LATER = Path(sys.argv[2]), sys.argv[3], "later" in sys.argv
 import warnings
 warnings.simplefilter("ignore")  # (of the module cgi, which Babel 2.10 imports)
 import flask_babel
-from flask import Flask, has_request_context, render_template_string, request
+from flask import Flask, current_app, has_request_context, render_template_string, request
 from flask_babel import Babel, force_locale, gettext, lazy_gettext, ngettext, npgettext, pgettext
 import kobdzila, kobdzila.flask
 
+
+def locale():
+    return request.accept_languages.best_match(["en", "fr", "pt_BR"]) if has_request_context() else "fr"
+
+
+class Configuration:
+    """The extension since Flask-Babel 3, with what the functions of Flask-Babel 2 look for in it."""
+
+    def __init__(self, instance, default_domain):
+        self.instance, self.default_domain = instance, default_domain
+
+    def __getattr__(self, name):
+        return getattr(self.instance, name)
+
+
+class Later(Babel):
+    """The extension of Flask-Babel 2 as a later one is: it is found in a configuration, and its domain needs an
+    application context."""
+
+    def init_app(self, app):
+        super().init_app(app)
+        app.extensions["babel"] = Configuration(self, app.config["BABEL_DOMAIN"])
+
+    @property
+    def domain(self):
+        return current_app.extensions["babel"].default_domain
+
+    @cached_property
+    def domain_instance(self):
+        return flask_babel.Domain(domain=self.domain)
+
+
+def listed(self, directories=None, domain="messages"):
+    made(self, directories, domain)
+    self.domain = domain.split(";")
+
+
 app = Flask(__name__)
-babel = Babel(app)
+if IS_LATER:
+    app.config["BABEL_DOMAIN"] = "messages;others"
+if not hasattr(Babel, "localeselector"):
+    Babel(app, locale_selector=locale)
+elif IS_LATER:
+    made, flask_babel.Domain.__init__ = flask_babel.Domain.__init__, listed
+    Later(app).localeselector(locale)
+else:
+    Babel(app).localeselector(locale)
 store = kobdzila.Store("messages")
 kobdzila.flask.init_app(app, store)
 TITLE = lazy_gettext("basket")
@@ -165,11 +211,6 @@ OWN = kobdzila.lazy_gettext("basket"), kobdzila.lazy_pgettext("verb", "order"), 
 def early():
     if request.args.get("early"):
         return " ".join(map(str, OWN))
-
-
-@babel.localeselector
-def locale():
-    return request.accept_languages.best_match(["en", "fr", "pt_BR"]) if has_request_context() else "fr"
 
 
 @app.get("/")
@@ -227,10 +268,11 @@ def there(*names: str) -> bool:
 
 
 class SitesTest(unittest.TestCase):
-    def play(self, program: str) -> None:
+    def play(self, program: str, *words: str) -> None:
         with tempfile.TemporaryDirectory() as room:
             (Path(room) / "fr" / "LC_MESSAGES").mkdir(parents=True)
-            done = subprocess.run([sys.executable, "-c", program, "|".join(sys.path), room, PO], capture_output=True, text=True)
+            command = [sys.executable, "-c", program, "|".join(sys.path), room, PO, *words]
+            done = subprocess.run(command, capture_output=True, text=True)
         self.assertEqual((done.stdout, done.returncode), ("well\n", 0), done.stderr)
 
     @unittest.skipUnless(there("django"), "no Django")
@@ -240,6 +282,10 @@ class SitesTest(unittest.TestCase):
     @unittest.skipUnless(there("flask", "flask_babel"), "no Flask-Babel")
     def test_flask_babel(self) -> None:
         self.play(FLASK)
+
+    @unittest.skipUnless(there("flask", "flask_babel"), "no Flask-Babel")
+    def test_later_flask_babel(self) -> None:
+        self.play(FLASK, "later")
 
 
 if __name__ == "__main__":

@@ -32,8 +32,10 @@ def init_app(app: Any, store: Store) -> None:
     extension = app.extensions.get("babel")
     if extension is None:
         raise RuntimeError("there is no Flask-Babel in this application: call flask_babel.Babel(app) first")
-    babel = getattr(extension, "instance", extension)  # (what the extension is depends on the version of Flask-Babel)
-    domain = vars(babel)["domain_instance"] = Domain(store, domain=babel.domain_instance.domain)
+    # (since Flask-Babel 3 the extension is a configuration, and all else needs an application context)
+    babel = getattr(extension, "instance", extension)
+    names = babel.domain if babel is extension else extension.default_domain
+    domain = vars(babel)["domain_instance"] = Domain(store, names.partition(";")[0])
     texts = Current(domain)
     # (before the functions of the application, of which one may answer the request)
     app.before_request_funcs.setdefault(None, []).insert(0, texts.begin)
@@ -43,21 +45,21 @@ def init_app(app: Any, store: Store) -> None:
 class Domain(flask_babel.Domain):  # type: ignore[misc]
     """A text domain of Flask-Babel that looks up in a store."""
 
-    def __init__(self, store: Store, domain: str) -> None:
-        super().__init__([], domain)
-        self.store = store
+    def __init__(self, store: Store, name: str) -> None:
+        super().__init__([], name)
+        self.store, self.name = store, name  # (the attribute `domain` is a list since Flask-Babel 3)
 
     def get_translations(self) -> Translations:
         """Return the translations for the locale of the request."""
-        return Translations(self._snapshot(), self.domain, flask_babel.get_locale())
+        return Translations(self._snapshot(), self.name, flask_babel.get_locale())
 
     def _snapshot(self) -> Snapshot:
         if not flask.has_request_context():
-            return self.store.snapshot("", self.domain)
+            return self.store.snapshot("", self.name)
         kept = _kept()
         found = kept.get(id(self.store))
         if found is None:
-            found = kept[id(self.store)] = self.store.snapshot("", self.domain)
+            found = kept[id(self.store)] = self.store.snapshot("", self.name)
         return found
 
 
