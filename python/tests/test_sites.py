@@ -43,6 +43,7 @@ settings.configure(
     TEMPLATES=[{"BACKEND": "django.template.backends.django.DjangoTemplates"}])
 django.setup()
 
+from django.core.handlers.asgi import ASGIHandler
 from django.http import HttpResponse
 from django.template import engines
 from django.test import AsyncClient, Client
@@ -92,12 +93,39 @@ async def later(request):
     return HttpResponse(f"{before} {OWN[0]} {gettext('basket')}")
 
 
-urlpatterns = [path("", page), path("later", later)]
+async def leaves(request):
+    """Leave a task that goes on after the request."""
+    async def goes_on():
+        with translation.override("fr"):
+            while gettext("basket") == "cabas":
+                await asyncio.sleep(0.01)
+
+    LEFT.append(asyncio.create_task(goes_on()))
+    return HttpResponse(gettext("basket"))
+
+
+LEFT = []
+urlpatterns = [path("", page), path("later", later), path("leaves", leaves)]
 PO = sys.argv[3]
 
 
 def get(accepted, **words):
     return Client().get("/", words, HTTP_ACCEPT_LANGUAGE=accepted).content.decode().split("\n")
+
+
+async def asgi(path, query=""):
+    """The body of what an ASGI server gets for a request in French."""
+    messages, sent = [{"type": "http.request", "body": b""}], []
+
+    async def receive():
+        return messages.pop() if messages else await asyncio.Event().wait()  # (this one doesn't hang up)
+
+    async def send(message):
+        sent.append(message.get("body", b""))
+
+    await ASGIHandler()({"type": "http", "method": "GET", "path": path, "query_string": query.encode(),
+                         "headers": [(b"accept-language", b"fr")]}, receive, send)
+    return b"".join(sent).decode()
 
 
 def french(name):
@@ -125,6 +153,16 @@ with translation.override("fr"):
     put("cabas")
     until(lambda: gettext("basket") == "cabas")
     assert str(TITLE) == "cabas"
+
+
+async def leave():
+    assert await asgi("/leaves") == "cabas"
+    put("sac")
+    await asyncio.wait_for(LEFT.pop(), 60)
+
+
+asyncio.run(leave())
+assert get("fr") == french("sac")
 # other settings, as tests have them
 from django.test.utils import override_settings
 store = kobdzila.Store("django")
@@ -135,7 +173,7 @@ with override_settings(KOBDZILA_STORE=store, LOCALE_PATHS=[]):
     store.load("django", "fr", PO.replace("{0}", "again").encode())
     store.publish()
     assert get("fr") == french("again")
-assert get("fr") == french("cabas")
+assert get("fr") == french("sac")
 print("well")
 '''
 

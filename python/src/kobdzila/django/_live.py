@@ -22,7 +22,15 @@ SEPARATOR: str = trans_real.CONTEXT_SEPARATOR
 _stores: list[Store] | None = None  # the texts of the first one come before those of the others
 _watches: list[Any] = []
 _making = threading.Lock()
-_pinned: ContextVar[dict[int, Snapshot] | None] = ContextVar("kobdzila.django", default=None)  # of the request
+
+
+class Pins(dict[int, Snapshot]):
+    """The snapshots of a request, by their stores. Tasks and threads that go on after it also have them."""
+
+    are_over = False
+
+
+_pinned: ContextVar[Pins | None] = ContextVar("kobdzila.django", default=None)
 
 
 def start() -> None:
@@ -80,15 +88,17 @@ def _made() -> list[Store]:
 
 def _begin(**ignored: Any) -> None:
     _end()
-    _pinned.set({})
+    _pinned.set(Pins())
     # (this may stay so: outside of requests Django's functions answer as well)
     current_snapshot.set(django_texts)
 
 
 def _end(**ignored: Any) -> None:
-    for snapshot in (_pinned.get() or {}).values():
-        snapshot.close()
-    _pinned.set(None)
+    pins = _pinned.get()
+    if pins is not None:
+        pins.are_over = True
+        pins.clear()  # (a snapshot closes itself when no thread looks up in it any more)
+        _pinned.set(None)
 
 
 def _changed(setting: str, **ignored: Any) -> None:
@@ -105,12 +115,12 @@ def _changed(setting: str, **ignored: Any) -> None:
 
 def _snapshot(store: Store) -> Snapshot:
     """Return the snapshot of the request, or the newest one outside of requests."""
-    pinned = _pinned.get()
-    if pinned is None:
+    pins = _pinned.get()
+    if pins is None or pins.are_over:
         return store.snapshot("", DOMAIN)
-    found = pinned.get(id(store))
+    found = pins.get(id(store))
     if found is None:
-        found = pinned[id(store)] = store.snapshot("", DOMAIN)
+        found = pins.setdefault(id(store), store.snapshot("", DOMAIN))
     return found
 
 
