@@ -28,6 +28,7 @@ msgstr[1] "{0} %(n)s fichiers"
 # a site whose settings have the two lines of the guide
 SITE = r'''
 import asyncio, os, sys, time
+from contextvars import copy_context
 from pathlib import Path
 
 sys.path[:0] = sys.argv[1].split("|")
@@ -44,6 +45,7 @@ settings.configure(
 django.setup()
 
 from django.core.handlers.asgi import ASGIHandler
+from django.core.signals import request_started
 from django.http import HttpResponse
 from django.template import engines
 from django.test import AsyncClient, Client
@@ -87,6 +89,10 @@ def page(request):
     return HttpResponse("\n".join(texts))
 
 
+async def coroutine(request):
+    return page(request)
+
+
 async def later(request):
     before = str(OWN[0])
     await asyncio.sleep(0.01)
@@ -105,7 +111,7 @@ async def leaves(request):
 
 
 LEFT = []
-urlpatterns = [path("", page), path("later", later), path("leaves", leaves)]
+urlpatterns = [path("", page), path("coroutine", coroutine), path("later", later), path("leaves", leaves)]
 PO = sys.argv[3]
 
 
@@ -128,6 +134,12 @@ async def asgi(path, query=""):
     return b"".join(sent).decode()
 
 
+def send_apart():
+    """Let the receivers of a signal run in a context of their own under ASGI, as they do since Django 5.0."""
+    send = request_started.send
+    request_started.send = lambda **words: copy_context().run(send, **words) if "scope" in words else send(**words)
+
+
 def french(name):
     return [name, name, name, name + " verb", name + " %(n)s fichiers", name + " %(n)s fichier", name + " %(n)s fichier",
             "Oui", "nothing of it", name + "|" + name + " 3 fichiers", name + " " + name + " verb %(n)s"]
@@ -148,6 +160,17 @@ assert get("en")[:2] == ["basket", "basket"] and get("de")[7] == "Ja"
 # a request has one version, whatever is published meanwhile, and another language in between
 assert get("fr", put="corbeille") == french("panier"), "a request has two versions"
 assert get("fr") == french("corbeille"), "the next request has the older version"
+# and so has one of an ASGI server, for a view in a thread and for one in the loop
+from kobdzila.django import _live
+answers = ASGIHandler.__call__
+_live.start()
+assert ASGIHandler.__call__ is answers, "what is started twice is in place once"
+now = "corbeille"
+for _ in range(2):
+    for at, name in (("/", "panier"), ("/coroutine", "sac")):
+        assert asyncio.run(asgi(at, f"put={name}")).split("\n") == french(now), f"{at} has two versions"
+        now = name
+    send_apart()
 # outside of requests each text is of the newest version
 with translation.override("fr"):
     put("cabas")

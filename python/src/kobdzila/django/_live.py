@@ -7,6 +7,7 @@ from typing import Any
 
 from django.conf import settings
 from django.core.exceptions import ImproperlyConfigured
+from django.core.handlers.asgi import ASGIHandler
 from django.core.signals import request_finished, request_started, setting_changed
 from django.utils import translation as django_texts
 from django.utils.module_loading import import_string
@@ -31,11 +32,15 @@ class Pins(dict[int, Snapshot]):
 
 
 _pinned: ContextVar[Pins | None] = ContextVar("kobdzila.django", default=None)
+_answer: Any = None  # ASGIHandler's own method
 
 
 def start() -> None:
     """Make Django's translations live from now on."""
+    global _answer
     trans_real.translation = translation
+    if _answer is None:
+        _answer, ASGIHandler.__call__ = ASGIHandler.__call__, _answer_pinned
     request_started.connect(_begin, dispatch_uid="kobdzila")
     request_finished.connect(_end, dispatch_uid="kobdzila")
     setting_changed.connect(_changed, dispatch_uid="kobdzila")
@@ -86,8 +91,17 @@ def _made() -> list[Store]:
     return made
 
 
+async def _answer_pinned(handler: Any, scope: Any, receive: Any, send: Any) -> None:
+    """Answer an ASGI request. Since Django 5.0 the receivers of its signals run in tasks of their own, so what they set
+    isn't set in the request."""
+    _begin()
+    try:
+        await _answer(handler, scope, receive, send)
+    finally:
+        _end()
+
+
 def _begin(**ignored: Any) -> None:
-    _end()
     _pinned.set(Pins())
     # (this may stay so: outside of requests Django's functions answer as well)
     current_snapshot.set(django_texts)
