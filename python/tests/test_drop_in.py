@@ -8,6 +8,7 @@ import copy
 import enum
 import gettext
 import io
+import operator
 import os
 import subprocess
 import sys
@@ -351,6 +352,10 @@ class LazyTest(unittest.TestCase):
             self.assertEqual((lazy[2] % 3, keys["panier"], basket == "panier", basket == lazy[0], "".join(basket)),
                              ("3 fichiers", 1, True, True, "panier"))
             self.assertEqual(sorted([basket, lazy[1]])[0], "commander")
+            for other in ("a", "panier", "z"):
+                for compare in (operator.lt, operator.le, operator.gt, operator.ge, operator.eq, operator.ne):
+                    expected = compare("panier", other), compare(other, "panier")
+                    self.assertEqual((compare(basket, other), compare(other, basket)), expected, (compare, other))
             self.assertIs(kobdzila.current_snapshot.get(), texts)
         self.assertEqual(str(basket), "basket")
         with self.assertRaises(ValueError):

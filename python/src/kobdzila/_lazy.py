@@ -133,6 +133,15 @@ class LazyText:
     def __lt__(self, other: Any) -> bool:
         return str(self) < str(other)
 
+    def __le__(self, other: Any) -> bool:
+        return str(self) <= str(other)
+
+    def __gt__(self, other: Any) -> bool:
+        return str(self) > str(other)
+
+    def __ge__(self, other: Any) -> bool:
+        return str(self) >= str(other)
+
 
 def lazy_gettext(message: str) -> LazyText:
     """Return a lazy translation of `message`: it is looked up, when it is used, in the snapshot that is current
