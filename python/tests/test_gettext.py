@@ -92,6 +92,12 @@ class FunctionsTest(unittest.TestCase):
         with mock.patch.dict(os.environ, {"LANGUAGE": "C"}, clear=True):
             self.assertEqual(kobdzila.dgettext("shop", "basket"), "basket")
 
+    def test_path(self) -> None:
+        kobdzila.bindtextdomain("shop", Path(self.room))
+        with mock.patch.dict(os.environ, {"LANGUAGE": "fr_CA:de"}, clear=True):
+            self.assertEqual(kobdzila.dgettext("shop", "basket"), "panier d'ici")
+            self.assertEqual(kobdzila.dpgettext("shop", "verb", "order"), "commander")
+
     def test_install(self) -> None:
         with mock.patch.dict(builtins.__dict__), mock.patch.dict(os.environ, {"LANGUAGE": "fr"}):
             kobdzila.install("shop", self.room, names=["ngettext", "other"])

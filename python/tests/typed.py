@@ -30,6 +30,14 @@ def catalogues(path: Path) -> None:
         assert_type((refused.line, refused.fault, refused.text), tuple[int, kobdzila.Fault, str])
 
 
+def folders(path: Path) -> None:
+    """Each function of the standard module that takes a folder takes it as a path, too."""
+    assert_type(kobdzila.bindtextdomain("shop", path), str)
+    assert_type(kobdzila.find("shop", path), str | None)
+    assert_type(kobdzila.translation("shop", path, fallback=True), Any)
+    kobdzila.install("shop", path)
+
+
 def stores() -> None:
     store = Store("shop", source=None, default="fr")
     store.load("shop", "fr", b"", use_fuzzy=True)

@@ -84,7 +84,7 @@ def textdomain(domain: str | None = None) -> str:
     return set_or_read
 
 
-def bindtextdomain(domain: str, localedir: str | None = None) -> str:
+def bindtextdomain(domain: str, localedir: str | os.PathLike[str] | None = None) -> str:
     """Set the folder of a text domain's catalogues, unless `localedir` is None, and return it."""
     set_or_read: str = PRIVATE.bindtextdomain(domain, localedir)
     return set_or_read
