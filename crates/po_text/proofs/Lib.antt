@@ -7,6 +7,8 @@ pub mod Unique
 pub mod FlagLemmas
 pub mod Grammar
 pub mod GapLemmas
+pub mod CleanLemmas
+pub mod WordLemmas
 pub mod LexemeLemmas
 pub mod Completes
 pub mod OpenLists

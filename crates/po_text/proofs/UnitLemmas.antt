@@ -1,11 +1,9 @@
 -- Units of a string, one after another.
 use Rattle.po_text.proofs.Kit.{◌≡◌, ℕ, zero, suc, ◌<◌, ◌≤◌, true, false, List, [], ◌∷◌, ◌++◌, length, get_or, take}
-use Rattle.po_text.proofs.Kit.{drop, refl, sym, ap, ◌∙◌, arith, append_assoc, one-add, inl, inr, Result, Ok, Err, IfOk}
+use Rattle.po_text.proofs.Kit.{drop, refl, sym, ap, ◌∙◌, arith, append_assoc, one-add, inl, inr}
 use Rattle.po_text.proofs.Kit.{cases_eq, ne_eqb, StringUnit, Plain, UnitAt, UnitsAt, unit_value, is_plain, Octal}
 use Rattle.po_text.proofs.Kit.{is_octal, octal_value, IsOpenEnd, PoKind, prefix_len, prefix_len-le-length, map-append}
 use Rattle.std.proofs.Common.{min}
-use denote.Ref.{Bor}
-use Rattle.std.specs.Prelude.{IfErr}
 use Rattle.po_text.specs.Spelling.{octal_run}
 use Rattle.po_text.specs.Lexing.{TakesUnits, ReadsUnit, StopsBadly, UnitsFail}
 use Rattle.po_text.proofs.Chains.{Chain-append}
@@ -111,23 +109,23 @@ is_line_end b stops no_quote no_slash = elim (cases_eq b 10) [
       absurd (cc (stops, t))
 ]
 
+pub is_plain_byte : (b : ℕ) → (b ≡ 34 → ⊥) → (b ≡ 92 → ⊥) → (b ≡ 10 → ⊥) → is_plain b ≡ true
+is_plain_byte b no_quote no_slash no_end = rw (ne_eqb b 34 no_quote, ne_eqb b 92 no_slash, ne_eqb b 10 no_end) refl
+
 pub open_at_line_end : (b : ℕ) (more : List ℕ) → b ≡ 10 → IsOpenEnd (b ∷ more)
 open_at_line_end b [] e = inl e
 open_at_line_end b (c ∷ more) e = inl e
 
 -- ---- units after a run
 
-pub ok_behind : (r : Result (Bor (List ℕ)) PoKind) (old run out text after : List ℕ) → old ≡ run
-    → UnitsAt run text after → IfOk r (λ rest. TakesUnits old out after (34 ∷ rest.now))
-    → IfOk r (λ rest. UnitsAt out text (34 ∷ rest.now))
-ok_behind (Ok rest) old run out text after same front h = rw (h.grown, same)
-    (UnitsAt-append run h.values text after (34 ∷ rest.now) front h.units)
-ok_behind (Err kind) old run out text after same front h = tt
+pub ok_behind : (old run out text after rest : List ℕ) → old ≡ run → UnitsAt run text after
+    → TakesUnits old out after rest → UnitsAt out text rest
+ok_behind old run out text after rest same front h = rw (h.grown, same)
+    (UnitsAt-append run h.values text after rest front h.units)
 
-pub err_behind : (r : Result (Bor (List ℕ)) PoKind) (run text after : List ℕ) → UnitsAt run text after
-    → IfErr r (λ kind. UnitsFail kind after) → IfErr r (λ kind. UnitsFail kind text)
-err_behind (Ok rest) run text after front h = tt
-err_behind (Err kind) run text after front (values, stop, units, bad) = (
+pub err_behind : (kind : PoKind) (run text after : List ℕ) → UnitsAt run text after → UnitsFail kind after
+    → UnitsFail kind text
+err_behind kind run text after front (values, stop, units, bad) = (
   run ++ values,
   stop,
   UnitsAt-append run values text after stop front units,

@@ -1,22 +1,21 @@
 -- Private: what the lexer takes from a text.
 use Rattle.std.specs.Prelude.{◌≡◌, ◌≢◌, ℕ, ◌<◌, ◌≤◌, Bool, false, not, List, [], ◌∷◌, ◌++◌, length, Option, Some, ◌+◌}
-use Rattle.std.specs.Prelude.{None, IfSome, ◌&&◌, nat_le, nat_lt}
+use Rattle.std.specs.Prelude.{IsTrue, ◌&&◌, nat_le, nat_lt}
 use Rattle.po_text.specs.declared.fault.PoKind.{PoKind}
 use Rattle.po_text.specs.declared.fault.PoKind.TheVariants.{BadEscape, OpenString, Memory}
 use Rattle.std.specs.Option.{option_map}
 use Rattle.std.specs.List.{AllByRecursion}
-use denote.Ref.{Bor}
 use Rattle.po_text.specs.declared.flags.Flags.{Flags}
 use Rattle.po_text.specs.declared.strings.StringBytes.{StringBytes}
 use Rattle.po_text.specs.declared.lexer.Token as code
 use Rattle.po_text.specs.declared.lexer.Token.TheVariants as kinds
 use Rattle.byte_text.specs.Chain.{Chain}
-use Rattle.po_text.specs.Ends.{IsPart}
 use Rattle.po_text.specs.Building.{flags_over}
+use Rattle.po_text.specs.Clean.{bytes_of}
 use Rattle.po_text.specs.Spelling.{Token, Context, Id, Plural, Str, Number, Open, Close}
 use Rattle.po_text.specs.Spelling.{Text, Piece, White, Comment, PieceAt, piece_token, FaultAt, Lexeme}
 use Rattle.po_text.specs.Spelling.{lexemes, is_white, line_of, comment_marks, is_separator, Mark, StringUnit, UnitAt}
-use Rattle.po_text.specs.Spelling.{UnitsAt, unit_value, IsBadEscape, IsOpenEnd, is_plain, IsLawful}
+use Rattle.po_text.specs.Spelling.{UnitsAt, unit_value, IsBadEscape, IsOpenEnd, IsLawful}
 
 abbrev pub is_no_separator : ℕ → Bool
 is_no_separator b = not (is_separator b)
@@ -24,11 +23,6 @@ is_no_separator b = not (is_separator b)
 -- ASCII, but not NUL
 abbrev pub is_simple : ℕ → Bool
 is_simple b = nat_le 1 b && nat_lt b 128
-
--- no plain byte is at the front
-abbrev pub StopsPlain : List ℕ → Type 0
-StopsPlain [] = Unit {0}
-StopsPlain (b ∷ more) = is_plain b ≡ false
 
 -- text is a unit with this value, followed by rest
 abbrev pub ReadsUnit : List ℕ → ℕ → List ℕ → Type 0
@@ -52,16 +46,12 @@ pub record TakesUnits (old new text rest : List ℕ) : Type 0 where
   pub grown : new ≡ old ++ values
 
 -- the bytes of the last string read
-abbrev pub bytes_of : Option (Bor (List ℕ)) → List ℕ → List ℕ
-bytes_of None decoded = decoded
-bytes_of (Some plain) decoded = plain.now
-
 abbrev pub string_of : StringBytes → List ℕ
 string_of s = bytes_of s.plain s.decoded.items
 
--- what is borrowed from the text is a part of it
-abbrev pub HoldsPart : Bool → StringBytes → Type 0
-HoldsPart is_free s = IfSome s.plain (λ plain. IsPart is_free plain.now)
+-- clean bytes are lawful
+abbrev pub HoldsLawful : StringBytes → Type 0
+HoldsLawful s = IsTrue s.is_clean → IsLawful (string_of s)
 
 -- the specification's token for the code's token; text is the bytes of a string
 abbrev pub token_view : code.Token → List ℕ → Token

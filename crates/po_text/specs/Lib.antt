@@ -5,6 +5,7 @@ pub mod Entries
 pub mod Stages
 pub mod Building
 pub mod Lexing
+pub mod Clean
 pub mod Outcome
 pub mod Lawful
 pub mod Buffers

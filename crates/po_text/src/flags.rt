@@ -70,6 +70,7 @@ fn flag_words(words: &[u8], flags: &mut Flags)
 }
 
 /// Applies a comment to the flags, given what follows its `#`.
+#[inline(always)]
 pub(crate) fn comment_flags(comment: &[u8], flags: &mut Flags)
     ensures { flags.new ≡ flags_over flags.old (comment_marks comment.now) }
 {

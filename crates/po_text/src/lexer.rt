@@ -1,4 +1,6 @@
 //! The lexer: splits a text into tokens, and skips the white space and comments between them.
+//!
+//! All of it that most tokens need is inlined into the parser's loop, since a call costs more than such a token.
 ghost use Rattle.std.specs.Prelude.{◌≡◌, ℕ, ◌+◌, ◌-◌, ◌*◌, ◌<◌, ◌≤◌, ◌^◌, ◌↔◌, ◌⊎◌, ◌++◌};
 ghost use Rattle.std.specs.Prelude.{◌∷◌, [], List, Bool, length, IfOk, IfErr, IfSome, IsTrue, MatchOption, false};
 ghost use Rattle.std.specs.List.{prefix_len, slice_split, take_while};
@@ -8,14 +10,14 @@ ghost use Rattle.po_text.specs.Spelling.{comment_marks, flag_mark, is_separator,
 ghost use Rattle.po_text.specs.Spelling.{is_not_line_end, word_token, number_of, IsLawful, PieceAt};
 ghost use Rattle.po_text.specs.Spelling.{Word, Quoted, FaultAt};
 ghost use Rattle.po_text.specs.Spelling as spec;
-ghost use Rattle.po_text.specs.Lexing.{TakesToken, string_of, HasNext, HasEnd, HasFaultFrom};
+ghost use Rattle.po_text.specs.Lexing.{TakesGap, TakesToken, string_of, HasNext, HasEnd, HasFaultFrom};
 ghost use Rattle.po_text.specs.Ends.{EndsText};
 ghost use Rattle.po_text.specs.Faults.{out_of_memory};
 ghost use Rattle.po_text.specs.declared.fault.PoKind.TheVariants.{BadWord, Memory};
 
 use crate::fault::{PoFault, PoKind};
 use crate::flags::{Flags, comment_flags};
-use crate::scan::{is_free_of_nul, is_white_byte, split_line};
+use crate::scan::{is_white_byte, split_line};
 use crate::strings::StringBytes;
 use crate::words::word_len;
 use byte_text::split_byte;
@@ -37,11 +39,9 @@ pub(crate) enum Token {
 #[derive(Drop)]
 pub(crate) struct Lexer<'a> {
     pub(crate) rest: &'a [u8],
-    /// Whether `rest` is known to be free of NUL.
-    is_free: bool,
     pub(crate) line: u32,
     pub(crate) flags: Flags,
-    ghost ends: { EndsText is_free rest.now },
+    ghost ends: { EndsText rest.now },
 }
 
 /// The number that a word spells, if it is one to nine decimal digits.
@@ -79,7 +79,7 @@ fn token_of(word: &[u8]) -> Option<Token>
 }
 
 /// Reads the keyword or number at the front; any other word, or none, is a `BadWord`.
-fn read_word(text: &[u8]) -> Result<(Token, &[u8]), PoKind>
+fn read_any_word(text: &[u8]) -> Result<(Token, &[u8]), PoKind>
     ensures ok { IfOk result (λ x. (token : spec.Token)
         × PieceAt (Word (take_while is_word_byte text.now) token) text.now x.1.now
         × ((bytes : List ℕ) → token_view x.0 bytes ≡ token)) }
@@ -97,31 +97,45 @@ fn read_word(text: &[u8]) -> Result<(Token, &[u8]), PoKind>
     }
 }
 
+/// Reads the keyword or number at the front; any other word, or none, is a `BadWord`. The keywords of nearly all
+/// entries are recognized without a search for their end.
+#[inline(always)]
+fn read_word(text: &[u8]) -> Result<(Token, &[u8]), PoKind>
+    ensures ok { IfOk result (λ x. (token : spec.Token)
+        × PieceAt (Word (take_while is_word_byte text.now) token) text.now x.1.now
+        × ((bytes : List ℕ) → token_view x.0 bytes ≡ token)) }
+    ensures shorter { IfOk result (λ x. length x.1.now < length text.now) }
+    ensures err { IfErr result (λ kind.
+        (kind ≡ BadWord) × (word_token (take_while is_word_byte text.now) ≡ None)) }
+{
+    if let [b'm', b's', b'g', b'i', b'd', b' ', ..] = text {
+        return Ok((Token::Id, &text[5..]));
+    }
+    if let [b'm', b's', b'g', b's', b't', b'r', b' ', ..] = text {
+        return Ok((Token::Str, &text[6..]));
+    }
+    read_any_word(text)
+}
+
 /// Reads a string, from after its opening quote to its closing one.
-fn read_string<'a>(
-    inner: &'a [u8],
-    is_free: bool,
-    bytes: &mut StringBytes<'a>,
-) -> Result<&'a [u8], PoKind>
-    requires { EndsText is_free (34 ∷ inner.now) }
+#[inline(always)]
+fn read_string<'a>(inner: &'a [u8], bytes: &mut StringBytes<'a>) -> Result<&'a [u8], PoKind>
+    requires { EndsText (34 ∷ inner.now) }
     ensures ok { IfOk result (λ rest. PieceAt (Quoted (string_of bytes.new)) (34 ∷ inner.now) rest.now) }
     ensures shorter { IfOk result (λ rest. length rest.now < length inner.now) }
     ensures err { IfErr result (λ kind. (kind ≡ Memory) ⊎ FaultAt kind (34 ∷ inner.now)) }
 {
     let rest = bytes.read(inner)?;
-    if !bytes.is_lawful(is_free) {
+    if !bytes.is_lawful() {
         return Err(PoKind::BadText);
     }
     Ok(rest)
 }
 
 /// Reads the token at the front.
-fn read_token<'a>(
-    text: &'a [u8],
-    is_free: bool,
-    bytes: &mut StringBytes<'a>,
-) -> Result<(Token, &'a [u8]), PoKind>
-    requires ends { EndsText is_free text.now }
+#[inline(always)]
+fn read_token<'a>(text: &'a [u8], bytes: &mut StringBytes<'a>) -> Result<(Token, &'a [u8]), PoKind>
+    requires ends { EndsText text.now }
     requires some { 0 < length text.now }
     requires no_gap { StopsGap text.now }
     ensures ok { IfOk result (λ x. TakesToken x.0 (string_of bytes.new) text.now x.1.now) }
@@ -133,7 +147,7 @@ fn read_token<'a>(
         unreachable!()
     };
     if byte == b'"' {
-        let rest = read_string(later, is_free, bytes)?;
+        let rest = read_string(later, bytes)?;
         Ok((Token::Text, rest))
     } else if byte == b'[' {
         Ok((Token::Open, later))
@@ -144,50 +158,52 @@ fn read_token<'a>(
     }
 }
 
+/// Skips the white space and comments at the front, counting lines and collecting flags; returns what follows.
+#[inline(always)]
+fn gap_end<'a>(text: &'a [u8], line: &mut u32, flags: &mut Flags) -> &'a [u8]
+    requires { line.old + length text.now < 2 ^ 32 }
+    ensures gap { TakesGap flags.old line.old text.now flags.new line.new result.now }
+    ensures stops { StopsGap result.now }
+{
+    let mut rest = text;
+    'gap: while let Some((byte, later)) = split_byte(rest) {
+        if byte == b'\n' {
+            *line += 1;
+            rest = later;
+        } else if is_white_byte(byte) {
+            rest = later;
+        } else if byte == b'#' {
+            let (comment, after) = split_line(later);
+            comment_flags(comment, flags);
+            rest = after;
+        } else {
+            return rest;
+        }
+    }
+    rest
+}
+
 impl<'a> Lexer<'a> {
     ghost use Rattle.po_text.specs.Building.{no_flags};
-    ghost use Rattle.po_text.specs.Lexing.{TakesGap, TakesLexemes};
+    ghost use Rattle.po_text.specs.Lexing.{TakesLexemes};
     ghost use Rattle.po_text.specs.Spelling.{HasFault, Lexeme, Spells};
 
     /// A lexer at the start of a text.
     pub(crate) fn new(text: &'a [u8]) -> Lexer<'a>
-        requires { EndsText false text.now }
+        requires { EndsText text.now }
         ensures rest { result.rest.now ≡ text.now }
         ensures line { result.line ≡ 1 }
         ensures flags { result.flags ≡ no_flags }
     {
         Lexer {
             rest: text,
-            is_free: is_free_of_nul(text),
             line: 1,
             flags: Flags::NONE,
         }
     }
 
-    /// Skips white space and comments, counting lines and collecting flags.
-    fn skip_gap(&mut self)
-        requires { self.old.line + length self.old.rest.now < 2 ^ 32 }
-        ensures gap { TakesGap self.old.flags self.old.line self.old.rest.now
-            self.new.flags self.new.line self.new.rest.now }
-        ensures stops { StopsGap self.new.rest.now }
-    {
-        'gap: while let Some((byte, later)) = split_byte(self.rest) {
-            if byte == b'\n' {
-                self.line += 1;
-                self.rest = later;
-            } else if is_white_byte(byte) {
-                self.rest = later;
-            } else if byte == b'#' {
-                let (comment, after) = split_line(later);
-                comment_flags(comment, &mut self.flags);
-                self.rest = after;
-            } else {
-                return;
-            }
-        }
-    }
-
     /// Skips to the next token and reads it, leaving its line in `line`; None at the end of the text.
+    #[inline(always)]
     pub(crate) fn next_token(
         &mut self,
         bytes: &mut StringBytes<'a>,
@@ -205,11 +221,12 @@ impl<'a> Lexer<'a> {
         ensures err { IfErr result (λ fault. (fault ≡ out_of_memory)
             ⊎ HasFaultFrom self.old.flags self.old.line self.old.rest.now fault.kind fault.line) }
     {
-        self.skip_gap();
-        if self.rest.is_empty() {
+        let text = gap_end(self.rest, &mut self.line, &mut self.flags);
+        if text.is_empty() {
+            self.rest = text;
             return Ok(None);
         }
-        match read_token(self.rest, self.is_free, bytes) {
+        match read_token(text, bytes) {
             Ok((token, rest)) => {
                 self.rest = rest;
                 Ok(Some(token))

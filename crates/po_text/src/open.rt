@@ -23,7 +23,7 @@ fn line_behind(text: &[u8]) -> u32
 fn skip_mark(text: &[u8]) -> &[u8]
     ensures is { result.now ≡ body text.now }
     ensures shorter { length result.now ≤ length text.now }
-    ensures ends { IsUtf8 text.now → EndsText false result.now }
+    ensures ends { IsUtf8 text.now → EndsText result.now }
 {
     let (front, rest) = text.split_at(text.len().min(3));
     if front == b"\xef\xbb\xbf".as_slice() {

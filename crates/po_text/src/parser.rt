@@ -82,7 +82,7 @@ impl<'a> Parser<'a> {
 
     /// A parser at the start of a text.
     pub(crate) fn new(alloc: Global, text: &'a [u8]) -> Parser<'a>
-        requires ends { EndsText false text.now }
+        requires ends { EndsText text.now }
         requires short { length text.now + 1 < 2 ^ 32 }
         ensures read { HasParsed text.now [] result }
         ensures ready { IsReady result }
@@ -123,9 +123,9 @@ impl<'a> Parser<'a> {
         let before = self.stage;
         self.stage = stage;
         if !opens_entry(before, token) {
-            into.put(before, token, self.lexer.line, self.bytes.as_slice())?;
             self.count = forms_after(before, token, self.count);
             self.keyword_line = keyword_after(token, self.lexer.line, self.keyword_line);
+            into.put(before, token, self.lexer.line, self.bytes.as_slice())?;
             return Ok(false);
         }
         self.line = self.lexer.line;
@@ -201,8 +201,7 @@ impl<'a> Parser<'a> {
             let Some(token) = self.lexer.next_token(&mut self.bytes)? else {
                 return self.end(last)
             };
-            let Some(stage) = next_stage(self.stage, token, self.count, self.bytes.as_slice())
-            else {
+            let Some(stage) = next_stage(self.stage, token, self.count, &self.bytes) else {
                 return Err(self.refuse(token))
             };
             if self.take(token, stage, into)? {

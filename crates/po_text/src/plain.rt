@@ -1,9 +1,11 @@
-//! Scans for plain bytes one vector at a time: most strings end within a few vectors, where calling a search function
+//! Scans for clean bytes one vector at a time: most strings end within a few vectors, where calling a search function
 //! costs more than the bytes.
-ghost use Rattle.std.specs.Prelude.{◌≡◌, ◌+◌, ◌≤◌, drop, length, take, IsTrue};
+ghost use Rattle.std.specs.Prelude.{◌≡◌, ◌≢◌, ◌+◌, ◌<◌, ◌≤◌, drop, length, take, IsTrue};
 ghost use Rattle.std.specs.List.{prefix_len};
+ghost use Rattle.byte_text.specs.Lanes.{first_set};
+ghost use Rattle.po_text.specs.Clean.{is_clean};
 ghost use Rattle.po_text.specs.Lexing.{is_simple};
-ghost use Rattle.po_text.specs.Spelling.{is_plain, IsLawful};
+ghost use Rattle.po_text.specs.Spelling.{IsLawful};
 
 use byte_text::first_set;
 use std::simd::prelude::*;
@@ -11,45 +13,49 @@ use std::simd::prelude::*;
 /// The number of bytes in a vector.
 pub(crate) const LANES: usize = 16;
 
-fn is_plain_byte(byte: u8) -> bool
-    ensures { result ≡ is_plain byte }
+/// The bytes that aren't clean, each at the index that its low four bits are. At the other indexes is 0, whose own
+/// index is 0.
+const STOPS: [u8; LANES] = [0, 0, b'"', 0, 4, 0, 0, 0, 0, 0, b'\n', 0, b'\\', 0, 0, 0];
+
+/// Whether a byte stands for itself in a string, and is neither NUL nor byte 4.
+pub(crate) fn is_clean_byte(byte: u8) -> bool
+    ensures { result ≡ is_clean byte }
 {
-    byte != b'"' && byte != b'\\' && byte != b'\n'
+    !matches!(byte, b'"' | b'\\' | b'\n' | 0 | 4)
 }
 
-/// The number of plain bytes that the vector at `at` begins with.
+/// The bytes of the vector at `at` that aren't clean, a bit for each.
 #[inline(always)]
-fn plain_lanes(text: &[u8], at: usize) -> usize
+fn stops_at(text: &[u8], at: usize) -> u64
     requires { at + LANES ≤ length text.now }
-    ensures { result ≡ prefix_len is_plain (take LANES (drop at text.now)) }
+    ensures first { first_set result LANES ≡ prefix_len is_clean (take LANES (drop at text.now)) }
+    ensures some { result ≢ 0 → prefix_len is_clean (take LANES (drop at text.now)) < LANES }
 {
     let bytes = u8x16::from_slice(&text[at..]);
-    let stops = bytes.simd_eq(u8x16::splat(b'"'))
-        | bytes.simd_eq(u8x16::splat(b'\\'))
-        | bytes.simd_eq(u8x16::splat(b'\n'));
-    first_set(stops.to_bitmask(), LANES)
+    let stops = u8x16::from_array(STOPS).swizzle_dyn(bytes & u8x16::splat(15));
+    bytes.simd_eq(stops).to_bitmask()
 }
 
-/// The number of plain bytes at the front, found one byte at a time.
-fn plain_bytes(text: &[u8]) -> usize
-    ensures { result ≡ prefix_len is_plain text.now }
+/// The number of clean bytes at the front, found one byte at a time.
+fn clean_bytes(text: &[u8]) -> usize
+    ensures { result ≡ prefix_len is_clean text.now }
 {
-    text.iter().take_while(|byte| is_plain_byte(**byte)).count()
+    text.iter().take_while(|byte| is_clean_byte(**byte)).count()
 }
 
-/// The number of plain bytes at the front.
-pub(crate) fn plain_len(text: &[u8]) -> usize
-    ensures { result ≡ prefix_len is_plain text.now }
+/// The number of clean bytes at the front.
+pub(crate) fn clean_len(text: &[u8]) -> usize
+    ensures { result ≡ prefix_len is_clean text.now }
 {
     let mut len = 0;
     'vectors: while LANES <= text.len() - len {
-        let run = plain_lanes(text, len);
-        len += run;
-        if run < LANES {
-            return len;
+        let stops = stops_at(text, len);
+        if stops != 0 {
+            return len + first_set(stops, LANES);
         }
+        len += LANES;
     }
-    len + plain_bytes(&text[len..])
+    len + clean_bytes(&text[len..])
 }
 
 fn is_simple_byte(byte: u8) -> bool

@@ -25,7 +25,7 @@ impl<'a> EntryReader<'a> {
 
     /// A reader at the start of a text without a byte order mark.
     pub(crate) fn new(alloc: Global, text: &'a [u8]) -> EntryReader<'a>
-        requires ends { EndsText false text.now }
+        requires ends { EndsText text.now }
         requires short { length text.now + 1 < 2 ^ 32 }
         ensures read { HasRead text.now [] result }
         ensures fault { fault_of result ≡ None }

@@ -1,12 +1,13 @@
 //! The grammar of entries: the stages in it, and where each token leads.
 ghost use Rattle.std.specs.Prelude.{List, ◌≡◌, ℕ, ◌+◌, ◌<◌, ◌≤◌, ◌^◌};
-ghost use Rattle.po_text.specs.Lexing.{token_view};
-ghost use Rattle.po_text.specs.Stages.{step, stage_view, has_four, opened_stage, next_count};
+ghost use Rattle.po_text.specs.Lexing.{string_of, token_view};
+ghost use Rattle.po_text.specs.Stages.{step, stage_view, opened_stage, next_count};
 ghost use Rattle.po_text.specs.Building.{opens};
 ghost use Rattle.po_text.specs.Parsing.{context_opened};
 ghost use Rattle.std.specs.Option.{option_map};
 
 use crate::lexer::Token;
+use crate::strings::StringBytes;
 
 /// A stage in the grammar: what was read last of the current entry.
 #[derive(Clone, Copy)]
@@ -25,12 +26,6 @@ pub(crate) enum Stage {
     IndexClose,
     IndexedWord,
     IndexedText,
-}
-
-fn holds_four(text: &[u8]) -> bool
-    ensures { result ≡ has_four text.now }
-{
-    text.contains(&4)
 }
 
 /// The number of complete forms after `token`, if there were `forms` before it.
@@ -62,20 +57,25 @@ pub(crate) fn opens_entry(stage: Stage, token: Token) -> bool
 /// The stage after `token`, whose string is `bytes`, if `forms` forms are complete; None if the token isn't allowed
 /// here.
 #[tactic(auto, unfolding(crate::specs::Stages::step))]
-pub(crate) fn next_stage(stage: Stage, token: Token, forms: u32, bytes: &[u8]) -> Option<Stage>
-    ensures { step (stage_view stage forms) (token_view token bytes.now)
+pub(crate) fn next_stage(
+    stage: Stage,
+    token: Token,
+    forms: u32,
+    bytes: &StringBytes,
+) -> Option<Stage>
+    ensures { step (stage_view stage forms) (token_view token (string_of bytes.now))
         ≡ option_map (λ p. stage_view p (next_count stage token forms)) result }
 {
     match (stage, token) {
         (Stage::Start | Stage::FormText | Stage::IndexedText, Token::Context) => Some(
             Stage::ContextWord,
         ),
-        (Stage::ContextWord | Stage::ContextText, Token::Text) if !holds_four(bytes) => Some(
+        (Stage::ContextWord | Stage::ContextText, Token::Text) if !bytes.has_four() => Some(
             Stage::ContextText,
         ),
         (Stage::Start | Stage::ContextText | Stage::FormText | Stage::IndexedText, Token::Id) =>
             Some(Stage::IdWord),
-        (Stage::IdWord | Stage::IdText, Token::Text) if !holds_four(bytes) => Some(Stage::IdText),
+        (Stage::IdWord | Stage::IdText, Token::Text) if !bytes.has_four() => Some(Stage::IdText),
         (Stage::IdText, Token::Str) => Some(Stage::FormWord),
         (Stage::FormWord | Stage::FormText, Token::Text) => Some(Stage::FormText),
         (Stage::IdText, Token::Plural) => Some(Stage::PluralWord),

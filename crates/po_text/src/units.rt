@@ -1,13 +1,14 @@
 //! The units of a string: plain bytes, escapes and octal digits.
 ghost use Rattle.std.specs.Prelude.{◌≢◌, ◌≡◌, ℕ, ◌+◌, ◌-◌, ◌*◌, ◌<◌, ◌≤◌, ◌↔◌, ◌++◌};
-ghost use Rattle.std.specs.Prelude.{◌∷◌, List, Bool, length, IfOk, IfErr, IsTrue, MatchOption, []};
+ghost use Rattle.std.specs.Prelude.{◌∷◌, List, Bool, length, IfOk, IfErr, IsTrue, MatchOption, [], true};
 ghost use Rattle.std.specs.List.{prefix_len};
 ghost use Rattle.po_text.specs.declared.fault.PoKind.TheVariants.{Memory};
-ghost use Rattle.po_text.specs.Spelling.{escaped_byte, is_octal, octal_run, octal_value, is_plain, UnitsAt};
-ghost use Rattle.po_text.specs.Lexing.{StopsPlain, ReadsUnit, StopsBadly, UnitsFail, TakesUnits};
+ghost use Rattle.po_text.specs.Spelling.{escaped_byte, is_octal, octal_run, octal_value, UnitsAt};
+ghost use Rattle.po_text.specs.Clean.{IsClean, IsTextByte, KeepsClean, StopsAscii, is_clean};
+ghost use Rattle.po_text.specs.Lexing.{ReadsUnit, StopsBadly, UnitsFail, TakesUnits};
 
 use crate::fault::PoKind;
-use crate::plain::plain_len;
+use crate::plain::{clean_len, is_clean_byte};
 use byte_text::split_byte;
 
 /// The byte that a backslash followed by this letter means.
@@ -34,14 +35,17 @@ fn is_octal_digit(byte: u8) -> bool
     b'0' <= byte && byte <= b'7'
 }
 
-/// Splits off the plain bytes at the front.
-pub(crate) fn plain_run(text: &[u8]) -> (&[u8], &[u8])
+/// Splits off the clean bytes at the front.
+pub(crate) fn clean_run(text: &[u8]) -> (&[u8], &[u8])
     ensures parts { text.now ≡ result.0.now ++ result.1.now }
     ensures units { UnitsAt result.0.now text.now result.1.now }
-    ensures stops { StopsPlain result.1.now }
+    ensures clean { IsClean result.0.now }
+    ensures stops { StopsAscii result.1.now }
     ensures shorter { length result.1.now ≤ length text.now }
+    ensures some { (byte : ℕ) (later : List ℕ) → text.now ≡ byte ∷ later → is_clean byte ≡ true →
+        length result.1.now < length text.now }
 {
-    text.split_at(plain_len(text))
+    text.split_at(clean_len(text))
 }
 
 /// The number of octal digits at the front.
@@ -125,27 +129,58 @@ fn read_escape(text: &[u8]) -> Result<(u8, &[u8]), PoKind>
     }
 }
 
-/// Reads the units of a string and its closing quote, and appends their values to `out`.
-pub(crate) fn read_units<'a>(text: &'a [u8], out: &mut Vec<u8>) -> Result<&'a [u8], PoKind>
-    ensures ok { IfOk result (λ rest. TakesUnits out.old.items out.new.items text.now (34 ∷ rest.now)) }
-    ensures shorter { IfOk result (λ rest. length rest.now < length text.now) }
+/// Reads the unit that begins with this byte, which is no quote.
+fn read_unit(byte: u8, later: &[u8]) -> Result<(u8, &[u8]), PoKind>
+    requires { byte ≢ 34 }
+    ensures ok { IfOk result (λ found. ReadsUnit (byte ∷ later.now) found.0 found.1.now) }
+    ensures shorter { IfOk result (λ found. length found.1.now ≤ length later.now) }
+    ensures err { IfErr result (λ kind. StopsBadly kind (byte ∷ later.now)) }
+
+    // This allocates nothing.
+    ensures no_memory { IfErr result (λ kind. kind ≢ Memory) }
+{
+    match byte {
+        b'\\' => read_escape(later),
+        b'\n' => Err(PoKind::OpenString),
+        _ => Ok((byte, later)),
+    }
+}
+
+/// Whether a string that was clean so far still is after this byte, which is ASCII then.
+fn stays_clean(is_clean: bool, value: u8) -> bool
+    ensures { IsTrue result → IsTrue is_clean × IsTextByte value × (value < 128) }
+{
+    is_clean && value != 0 && value != 4 && value.is_ascii()
+}
+
+/// Reads the units of a string and its closing quote, and appends their values to `out`. Also returns whether these
+/// values are known to have neither NUL nor byte 4, and to be UTF-8 if the text is.
+pub(crate) fn read_units<'a>(text: &'a [u8], out: &mut Vec<u8>) -> Result<(&'a [u8], bool), PoKind>
+    ensures ok { IfOk result (λ found.
+        TakesUnits out.old.items out.new.items text.now (34 ∷ found.0.now)) }
+    ensures shorter { IfOk result (λ found. length found.0.now < length text.now) }
+    ensures clean { IfOk result (λ found. IsTrue found.1 →
+        KeepsClean text.now (34 ∷ found.0.now) out.old.items out.new.items) }
     ensures err { IfErr result (λ kind. UnitsFail kind text.now) }
 {
     let mut rest = text;
+    let mut is_clean = true;
     'units: loop {
-        let (run, after) = plain_run(rest);
-        out.extend_from_slice(run)?;
-        let Some((byte, later)) = split_byte(after) else {
+        let Some((byte, later)) = split_byte(rest) else {
             return Err(PoKind::OpenString)
         };
-        match byte {
-            b'"' => return Ok(later),
-            b'\\' => {
-                let (value, later) = read_escape(later)?;
-                out.push(value)?;
-                rest = later;
-            }
-            _ => return Err(PoKind::OpenString),
+        if byte == b'"' {
+            return Ok((later, is_clean));
+        }
+        if is_clean_byte(byte) {
+            let (run, after) = clean_run(rest);
+            out.extend_from_slice(run)?;
+            rest = after;
+        } else {
+            let (value, behind) = read_unit(byte, later)?;
+            out.push(value)?;
+            is_clean = stays_clean(is_clean, value);
+            rest = behind;
         }
     }
 }

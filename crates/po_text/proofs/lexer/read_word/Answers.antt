@@ -1,35 +1,15 @@
-use Rattle.po_text.proofs.Kit.{◌≡◌, ℕ, ◌++◌, List, [], take, drop, refl, sym, arith, ap, ◌∙◌, take_while, prefix_len}
-use Rattle.po_text.proofs.Kit.{take-append-drop, prefix_len-le-length, is_word_byte, word_token, token_view}
+use Rattle.po_text.proofs.Kit.{[], ◌∷◌, refl, Id, Str}
+use Rattle.std.proofs.Common.{rules}
+use Rattle.std.proofs.lemmas.Slice.Eq.{HasBytesAt}
+use Rattle.po_text.proofs.WordLemmas.{id_ahead, str_ahead}
 use Rattle.po_text.proofs.lexer.read_word.Goals as goal
 
-pub split_at-requires : goal.split_at-requires
-split_at-requires c = omega (arith, c.word_len.ensures, prefix_len-le-length is_word_byte c.args.text.now)
+pub returns-in-109-clause-ok : goal.returns-in-109-clause-ok
+returns-in-109-clause-ok c =
+    let reads : HasBytesAt c.args.text.now 0 (109 ∷ 115 ∷ 103 ∷ 105 ∷ 100 ∷ 32 ∷ []) = search rules in
+    (Id, id_ahead c.args.text.now c.in-109.len_at_least reads, λ bytes. refl)
 
-is_run : (text front : List ℕ) (n : ℕ) → front ≡ take n text → n ≡ prefix_len is_word_byte text → front
-    ≡ take_while is_word_byte text
-is_run text front n e f = e ∙ ap (λ (k : ℕ). take k text) f
-
-cuts : (text back : List ℕ) (n : ℕ) → back ≡ drop n text → n ≡ prefix_len is_word_byte text → text
-    ≡ take_while is_word_byte text ++ back
-cuts text back n e f = sym (take-append-drop n text) ∙ rw (e, f) refl
-
-pub returns-in-Some-clause-ok : goal.returns-in-Some-clause-ok
-returns-in-Some-clause-ok c =
-    let run = is_run c.args.text.now c.split_at.result.0.now c.word_len.result c.split_at.ensures.front
-    c.word_len.ensures in
-    let is = λ (bytes : List ℕ). c.in-Some.ensures bytes ∙ ap word_token run in (
-      token_view c.in-Some.token [],
-      (
-        cuts c.args.text.now c.split_at.result.1.now c.word_len.result c.split_at.ensures.back c.word_len.ensures,
-        refl,
-        sym (is []),
-      ),
-      λ bytes. let e = is bytes in let f = is [] in cc (e, f),
-    )
-
-pub returns-in-None-clause-err : goal.returns-in-None-clause-err
-returns-in-None-clause-err c = (
-  refl,
-  ap word_token (sym (is_run c.args.text.now c.split_at.result.0.now c.word_len.result c.split_at.ensures.front
-      c.word_len.ensures)) ∙ sym (c.in-None.ensures []),
-)
+pub returns-in-109-text-clause-ok : goal.returns-in-109-text-clause-ok
+returns-in-109-text-clause-ok c =
+    let reads : HasBytesAt c.args.text.now 0 (109 ∷ 115 ∷ 103 ∷ 115 ∷ 116 ∷ 114 ∷ 32 ∷ []) = search rules in
+    (Str, str_ahead c.args.text.now c.in-109-text.len_at_least reads, λ bytes. refl)

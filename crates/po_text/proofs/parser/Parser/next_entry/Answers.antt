@@ -69,7 +69,7 @@ returns-in_default-next_stage-clause-fault c =
           f text (taken_refused text l.line c.next_token.new.self.line l.rest.now c.next_token.new.self.rest.now
           (stage_view c.tokens.self.stage c.tokens.self.count) (map draft_of entries) (draft_of c.tokens.into)
           l.flags c.next_token.new.self.flags c.tokens.self.keyword_line c.in-Some.token
-          (string_of c.next_token.new.bytes) t next (rw c.as_slice.ensures at c.in_default-next_stage.ensures)))
+          (string_of c.next_token.new.bytes) t next c.in_default-next_stage.ensures))
     ]
 
 pub returns-then-branch-clause-read : goal.returns-then-branch-clause-read
