@@ -2,18 +2,19 @@
 use Rattle.live_set.proofs.Kit.{◌≡◌, ℕ, zero, suc, ◌+◌, ◌-◌, ◌<◌, ◌≤◌, Bool, true, false, cond, List, [], ◌∷◌, ◌++◌}
 use Rattle.live_set.proofs.Kit.{length, get_or, take, drop, set, insert, filter, find, flat_map, Option, Some, None}
 use Rattle.live_set.proofs.Kit.{Ordering, Less, Equal, Greater, refl, sym, ap, ◌∙◌, subst, arith, inl, inr}
-use Rattle.live_set.proofs.Kit.{AllByRecursion, is_lt, false≢true, alike_right, append-nil, get_or_default, LoadValue}
+use Rattle.live_set.proofs.Kit.{AllByRecursion, is_lt, false≢true, alike_right, append-nil, LoadValue}
 use Rattle.live_set.proofs.Kit.{is_for, order_of, is_before, with_slot, Rises, probe}
-use Rattle.std.proofs.Common.{Result, Ok, Err, MatchResult, length-take, length-drop, ap₂}
+use Rattle.std.proofs.Common.{Result, Ok, Err, MatchResult, ap₂, min, length-append}
 use Rattle.std.specs.List.Sorted.{IsStrictlySortedBy, IsPartitionedBy, IsPartitionPoint}
 use Rattle.std.specs.Option.{SomeIff}
 use Rattle.std.specs.Ordering.{is_le}
 use Rattle.std.proofs.lemmas.Bool.{cases_Bool}
 use Rattle.std.proofs.lemmas.List.{append_assoc, take-append-drop}
+use Rattle.std.proofs.lemmas.List.Concat.{flat_map-append}
 use Rattle.std.proofs.lemmas.List.Elements.{filter-append}
 use Rattle.std.proofs.lemmas.Map.Keys.{sorted_head, sorted_tail}
-use Rattle.live_set.specs.LoadRuns.{begins_by, begun_count}
-use Rattle.live_set.proofs.Slotting.{slotted_rises}
+use Rattle.live_set.specs.LoadRuns.{begins_by, begun_count, IsCut, IsInRuns}
+use Rattle.live_set.proofs.Slotting.{slotted_rises, slotted_long}
 use Rattle.live_set.proofs.Order.{total, flipped, not_for, less_ne, greater_ne}
 
 -- ---- facts of each element
@@ -427,73 +428,161 @@ module _ {R : Type 0} (of : R → List LoadValue) (x : LoadValue) (first : List 
   put_later i run new r lt parted read is = put_run i lt parted run new r
       (subst (λ (s : R). IsPut r x (of s) (of new)) read is)
 
--- ---- a run is split
+-- ---- the count of a list, once a load is put in one of its runs
 
-module _ {R : Type 0} (of : R → List LoadValue) (first : List LoadValue) (runs : List R)
-    (rises : Rises (first ++ flat_map of runs)) (has : HasEach of runs) where
-  pub split_first : (n : ℕ) (low : List LoadValue) (up : R) (grown new : List R) → n < length first → grown ≡ runs
-      → low ≡ take n first → of up ≡ drop n first → new ≡ up ∷ grown → record {
-        same : low ++ flat_map of new ≡ first ++ flat_map of runs;
-        rises : Rises (low ++ flat_map of new);
-        has : HasEach of new;
-      }
-  split_first n low up grown new lt is_grown is_low is_up is =
-      let is_new : new ≡ up ∷ runs = is ∙ ap (λ (rs : List R). up ∷ rs) is_grown in
-      let same : low ++ flat_map of new ≡ first ++ flat_map of runs = ap (λ rs. low ++ flat_map of rs) is_new
-      ∙ sym (append_assoc low (of up) (flat_map of runs)) ∙ ap (λ l. l ++ flat_map of runs)
-      (ap₂ (λ s t. s ++ t) is_low is_up ∙ take-append-drop n first) in
-      let some : 0 < length (of up) = omega (arith, ap length is_up, length-drop n first, lt) in
-      record {
-        same = same;
-        rises = subst Rises (sym same) rises;
-        has = subst (HasEach of) (sym is_new) (some, has);
-      }
+-- a run has no fewer loads afterwards
+pub grown : {A E : Type 0} (x : LoadValue) (old new : List LoadValue) (r : Result A E) → Rises old → IsPut r x old new
+    → length old ≤ length new
+grown x old new (Ok a) rises is = subst (λ (l : List LoadValue). length old ≤ length l) (sym is)
+    (slotted_long x old rises)
+grown x old new (Err a) rises is = omega (arith, ap length is)
+
+abbrev pub IsCount : ℕ → List LoadValue → Type 0
+IsCount n loads = n ≡ min (length loads) 18446744073709551615
+
+module _ {R : Type 0} (of : R → List LoadValue) (first : List LoadValue) (runs : List R) (count before after : ℕ)
+    (counted : IsCount count (first ++ flat_map of runs)) where
+  pub counted_first : (new : List LoadValue) → IsCount before first → IsCount after new → length first ≤ length new
+      → IsCount (min (count + (after - before)) 18446744073709551615) (new ++ flat_map of runs)
+  counted_first new is_before is_after le = omega (
+    arith,
+    counted,
+    is_before,
+    is_after,
+    le,
+    length-append first (flat_map of runs),
+    length-append new (flat_map of runs),
+  )
+
+  pub counted_later : (i : ℕ) (run new : R) → i < length runs → run ≡ get_or runs i run → IsCount before (of run)
+      → IsCount after (of new) → length (of run) ≤ length (of new)
+      → IsCount (min (count + (after - before)) 18446744073709551615) (first ++ flat_map of (set runs i new))
+  counted_later i run new lt read is_before is_after le =
+      let lower = flat_map of (take i runs) in
+      let upper = flat_map of (drop (suc i) runs) in
+      let was : flat_map of runs ≡ lower ++ (of run ++ upper) = joined_at of runs i run lt
+      ∙ ap (λ (s : R). lower ++ (of s ++ upper)) (sym read) in
+      omega (
+        arith,
+        counted,
+        is_before,
+        is_after,
+        le,
+        length-append first (flat_map of runs),
+        ap length was,
+        length-append lower (of run ++ upper),
+        length-append (of run) upper,
+        length-append first (flat_map of (set runs i new)),
+        ap length (joined_set of runs i new lt),
+        length-append lower (of new ++ upper),
+        length-append (of new) upper,
+      )
+
+-- ---- a run is halved
+
+module _ {R : Type 0} (of : R → List LoadValue) (first : List LoadValue) (runs : List R) (count : ℕ)
+    (is : IsInRuns of first runs count) where
+  -- runs of the same loads, none of which is empty
+  again : (low : List LoadValue) (new : List R) → low ++ flat_map of new ≡ first ++ flat_map of runs → HasEach of new
+      → IsInRuns of low new count
+  again low new same has = record {
+    rises = subst Rises (sym same) is.rises;
+    has = has;
+    counted = is.counted ∙ ap (λ (l : List LoadValue). min (length l) 18446744073709551615) (sym same);
+  }
 
   -- a run has a copy of itself in its place
   pub kept_later : (i : ℕ) (run new : R) (grown : List R) → i < length runs → grown ≡ runs → run ≡ get_or grown i run
       → of new ≡ of run → record {
         same : first ++ flat_map of (set grown i new) ≡ first ++ flat_map of runs;
-        rises : Rises (first ++ flat_map of (set grown i new));
-        has : HasEach of (set grown i new);
+        inside : IsInRuns of first (set grown i new) count;
       }
-  kept_later i run new grown inside is_grown read is =
+  kept_later i run new grown inside is_grown read is_new =
       let at : run ≡ get_or runs i run = read ∙ ap (λ (rs : List R). get_or rs i run) is_grown in
-      let alike : of new ≡ of (get_or runs i run) = is ∙ ap of at in
+      let alike : of new ≡ of (get_or runs i run) = is_new ∙ ap of at in
       let same : first ++ flat_map of (set grown i new) ≡ first ++ flat_map of runs =
       ap (λ (rs : List R). first ++ flat_map of (set rs i new)) is_grown
       ∙ ap (λ l. first ++ l) (joined_alike of runs i new run inside alike) in
       let some : 0 < length (of new) = subst (λ l. 0 < length l) (sym alike)
-      (all_get (λ s. 0 < length (of s)) runs i run has inside) in
+      (all_get (λ s. 0 < length (of s)) runs i run is.has inside) in
       record {
         same = same;
-        rises = subst Rises (sym same) rises;
-        has = subst (λ (rs : List R). HasEach of (set rs i new)) (sym is_grown)
-            (all_set (λ s. 0 < length (of s)) runs i new some has);
+        inside = again first (set grown i new) same (subst (λ (rs : List R). HasEach of (set rs i new)) (sym is_grown)
+            (all_set (λ s. 0 < length (of s)) runs i new some is.has));
       }
 
-  -- `here` is the run as it was looked at, and `run` the one that was cut
-  pub split_later : (i n : ℕ) (here run low up : R) (grown new : List R) → i < length runs → 0 < n
-      → n < length (of here) → here ≡ get_or runs i here → grown ≡ runs → run ≡ get_or grown i run
-      → of low ≡ take n (of run) → of up ≡ drop n (of run) → new ≡ insert (set grown i low) (i + 1) up → record {
+  pub halved_later : (i : ℕ) (run low up : R) (grown new : List R) → i < length runs → grown ≡ runs
+      → run ≡ get_or grown i run → IsCut (of run) (of low) (of up) → new ≡ insert (set grown i low) (i + 1) up
+      → record {
         same : first ++ flat_map of new ≡ first ++ flat_map of runs;
-        rises : Rises (first ++ flat_map of new);
-        has : HasEach of new;
+        inside : IsInRuns of first new count;
       }
-  split_later i n here run low up grown new inside some long is_here is_grown read is_low is_up is =
+  halved_later i run low up grown new inside is_grown read cut is_new =
       let at : run ≡ get_or runs i run = read ∙ ap (λ (rs : List R). get_or rs i run) is_grown in
-      let whole : of low ++ of up ≡ of (get_or runs i run) = ap₂ (λ s t. s ++ t) is_low is_up
-      ∙ take-append-drop n (of run) ∙ ap of at in
-      let is_new : new ≡ insert (set runs i low) (i + 1) up = is
+      let whole : of low ++ of up ≡ of (get_or runs i run) = cut.joined ∙ ap of at in
+      let eq : new ≡ insert (set runs i low) (i + 1) up = is_new
       ∙ ap (λ (rs : List R). insert (set rs i low) (i + 1) up) is_grown in
-      let same : first ++ flat_map of new ≡ first ++ flat_map of runs = ap (λ rs. first ++ flat_map of rs) is_new
+      let same : first ++ flat_map of new ≡ first ++ flat_map of runs = ap (λ (rs : List R). first ++ flat_map of rs) eq
       ∙ ap (λ l. first ++ l) (joined_split of runs i low up run inside whole) in
-      let alike : here ≡ run = is_here ∙ get_or_default runs i here run inside ∙ sym at in
-      let lt : n < length (of run) = subst (λ (s : R). n < length (of s)) alike long in
-      let some_low : 0 < length (of low) = omega (arith, ap length is_low, length-take n (of run), lt, some) in
-      let some_up : 0 < length (of up) = omega (arith, ap length is_up, length-drop n (of run), lt) in
       record {
         same = same;
-        rises = subst Rises (sym same) rises;
-        has = subst (HasEach of) (sym is_new) (all_insert (λ s. 0 < length (of s)) (set runs i low) (i + 1) up some_up
-            (all_set (λ s. 0 < length (of s)) runs i low some_low has));
+        inside = again first new same (subst (HasEach of) (sym eq)
+            (all_insert (λ s. 0 < length (of s)) (set runs i low) (i + 1) up cut.some_upper
+            (all_set (λ s. 0 < length (of s)) runs i low cut.some_lower is.has)));
+      }
+
+-- ---- a list of runs is halved
+
+some_taken : {R : Type 0} (of : R → List LoadValue) (runs : List R) (n : ℕ) → HasEach of runs → 0 < n
+    → n < length runs → 0 < length (flat_map of (take n runs))
+some_taken of [] n has some lt = absurd (omega arith)
+some_taken of (r ∷ rs) zero has some lt = absurd (omega (arith, some))
+some_taken of (r ∷ rs) (suc n) has some lt = omega (arith, has.0, length-append (of r) (flat_map of (take n rs)))
+
+pub some_dropped : {R : Type 0} (of : R → List LoadValue) (runs : List R) (n : ℕ) → HasEach of runs → n < length runs
+    → 0 < length (flat_map of (drop n runs))
+some_dropped of [] n has lt = absurd (omega arith)
+some_dropped of (r ∷ rs) zero has lt = omega (arith, has.0, length-append (of r) (flat_map of rs))
+some_dropped of (r ∷ rs) (suc n) has lt = some_dropped of rs n has.1 (omega (arith, lt))
+
+module _ {R : Type 0} (of : R → List LoadValue) (first : List LoadValue) (runs : List R) (count : ℕ)
+    (is : IsInRuns of first runs count) (n : ℕ) (some : 0 < n) (inside : n < length runs) where
+  abbrev kept : List LoadValue
+  kept = first ++ flat_map of (take n runs)
+
+  abbrev moved : List LoadValue
+  moved = flat_map of (drop n runs)
+
+  cut_there : kept ++ moved ≡ first ++ flat_map of runs
+  cut_there = append_assoc first (flat_map of (take n runs)) moved
+      ∙ ap (λ l. first ++ l) (sym (flat_map-append of (take n runs) (drop n runs))
+      ∙ ap (flat_map of) (take-append-drop n runs))
+
+  -- the runs up to the n-th, and the others
+  pub halved : record {
+    cut : IsCut (first ++ flat_map of runs) kept moved;
+    rises_lower : Rises kept;
+    rises_upper : Rises moved;
+    has_lower : HasEach of (take n runs);
+    has_upper : HasEach of (drop n runs);
+  }
+  halved =
+      let P = λ (r : R). 0 < length (of r) in
+      let rises : Rises (kept ++ moved) = subst Rises (sym cut_there) is.rises in
+      let has : AllByRecursion P (take n runs ++ drop n runs) = subst (AllByRecursion P) (sym (take-append-drop n runs))
+      is.has in
+      record {
+        cut = record {
+          joined = cut_there;
+          some_lower = omega (
+            arith,
+            some_taken of runs n is.has some inside,
+            length-append first (flat_map of (take n runs)),
+          );
+          some_upper = some_dropped of runs n is.has inside;
+        };
+        rises_lower = rises_front kept moved rises;
+        rises_upper = rises_back kept moved rises;
+        has_lower = all_front P (take n runs) (drop n runs) has;
+        has_upper = all_back P (take n runs) (drop n runs) has;
       }

@@ -3,7 +3,7 @@ use Rattle.live_set.proofs.Kit.{◌≡◌, ℕ, zero, suc, ◌<◌, ◌≤◌, B
 use Rattle.live_set.proofs.Kit.{get_or, take, drop, set, insert, filter, find, Some, None, Ordering, Less, Equal}
 use Rattle.live_set.proofs.Kit.{Greater, refl, sym, ap, ◌∙◌, subst, arith, inl, inr, AllByRecursion, is_lt, cases_lt}
 use Rattle.live_set.proofs.Kit.{alike_right, LoadValue, is_for, SetValue, order_of, is_before, with_slot, Rises, probe}
-use Rattle.live_set.proofs.Kit.{IsAt}
+use Rattle.live_set.proofs.Kit.{IsAt, ◌+◌, length-append}
 use Rattle.std.proofs.Common.{Result, Ok, Err, IfOk, IfErr, ap₂}
 use Rattle.std.specs.List.Sorted.{IsStrictlySortedBy, IsNonDecreasingBy, IsSearchInRange, IsBinarySearchResult}
 use Rattle.std.specs.Ordering.{ordering_index}
@@ -231,6 +231,36 @@ module _ (x : LoadValue) where
   slotted_rises held rises =
       joined_rises (filter before held) (filter after held) (IsStrictlySortedBy-filter order_of before held rises)
       (passes_before held) (passes_after held) (IsStrictlySortedBy-filter order_of after held rises)
+
+  -- ---- no fewer loads afterwards
+
+  at_most_one : (held : List LoadValue) → Rises held
+      → length held ≤ length (filter before held) + length (filter after held) + 1
+  at_most_one [] rises = omega arith
+  at_most_one (y ∷ ys) rises =
+      let rest = at_most_one ys (sorted_tail order_of y ys rises) in
+      elim (order_of y x) as (λ o. order_of y x ≡ o
+      → length (y ∷ ys) ≤ length (filter before (y ∷ ys)) + length (filter after (y ∷ ys)) + 1) [
+        | Less ↦ λ e.
+            let front : filter before (y ∷ ys) ≡ y ∷ filter before ys = first_before y ys Less e in
+            let back : filter after (y ∷ ys) ≡ filter after ys = first_after y ys Greater (flipped y x Less e) in
+            omega (arith, rest, ap length front, ap length back)
+        | Equal ↦ λ e.
+            let back : filter after (y ∷ ys) ≡ ys = first_after y ys Equal (tied_back total y x e)
+            ∙ all_after ys (same_beside y ys e (sorted_head order_of y ys rises)) in
+            omega (arith, ap length back)
+        | Greater ↦ λ e.
+            let front : filter before (y ∷ ys) ≡ filter before ys = first_before y ys Greater e in
+            let back : filter after (y ∷ ys) ≡ y ∷ filter after ys = first_after y ys Less (flipped y x Greater e) in
+            omega (arith, rest, ap length front, ap length back)
+      ] refl
+
+  pub slotted_long : (held : List LoadValue) → Rises held → length held ≤ length (with_slot held x)
+  slotted_long held rises = omega (
+    arith,
+    at_most_one held rises,
+    length-append (filter before held) (x ∷ filter after held),
+  )
 
   -- ---- by a search for its own domain and locale
 

@@ -3,12 +3,14 @@
 
 mod languages;
 mod law;
+mod leaf;
 mod listed;
 mod load;
 mod many;
 mod name;
 mod places;
 mod query;
+mod run;
 mod runs;
 mod set;
 

@@ -1,311 +1,322 @@
-//! Loads in ascending order, kept in runs of bounded length so that inserting one moves few others.
+//! Loads in ascending order, kept in runs of bounded length that copies share, and those in lists of runs.
 ghost use Rattle.std.specs.Prelude.{◌≡◌, ◌<◌, true, false, [], ◌++◌, length, find, flat_map, option_map, MatchResult};
-ghost use Rattle.std.specs.Prelude.{MatchOption, None, IfOk, IfErr, IfSome, min, slice_get, ◌≤◌, take, drop};
+ghost use Rattle.std.specs.Prelude.{MatchOption, None, IfOk, IfSome, min, slice_get};
 ghost use Rattle.std.specs.List.Sorted.{IsPartitionedBy, IsPartitionPoint};
 ghost use Rattle.live_set.specs.Loads.{is_for};
-ghost use Rattle.live_set.specs.Slots.{with_slot, Rises, IsAt, IsGapFor};
-ghost use Rattle.live_set.specs.LoadRuns.{begins_by, begun_count, loads_in};
+ghost use Rattle.live_set.specs.Slots.{with_slot, Rises};
+ghost use Rattle.live_set.specs.LoadRuns.{begins_by, begun_count, loads_in, IsLoadAt, IsCut};
 ghost use Rattle.live_set.specs.Placing.{IsPlaceFor};
 
 use crate::Load;
+use crate::run::Run;
 use byte_text::TextKey;
 use std::alloc::{AllocError, Global};
 use std::cmp::Ordering;
 use std::marker::Model;
+use std::mem;
 use std::sync::Arc;
 
-/// A run is split before an insertion once it has this many loads.
-const RUN_LIMIT: usize = 128;
+/// A list of runs is full once it has this many after the first one.
+// A copy of a set goes through its first list of runs and its list of such lists, and an insertion goes through one
+// more list of runs. There are about 10 lists at 20,000 loads, and 500 at a million.
+const RUN_LIMIT: usize = 64;
+
+/// The loads of a set: a list of lists of runs. A copy shares the lists but the first one, and of that one the runs but
+/// the first.
+pub(crate) type LoadRuns = Runs<Runs<Vec<Load>>>;
 
 /// Loads in ascending order of locale and domain, in consecutive runs. Contracts see it as the list of loads.
 #[derive(Drop)]
-pub(crate) struct LoadRuns {
-    first: Vec<Load>,
+pub(crate) struct Runs<R: Run> {
+    /// The first run. It isn't shared, so a set of few loads is looked up without following an `Arc`. Once it is full,
+    /// it becomes one of the later runs, and no loads are left here. So a copy of a large set copies few loads.
+    first: R,
     /// The runs after the first one; none of them is empty. Copies share them.
-    later: Vec<Arc<Vec<Load>>>,
+    later: Vec<Arc<R>>,
+    /// How many loads there are in all of them, or 2^64 - 1 if there are more.
+    count: usize,
 }
 
-impl Model for LoadRuns {
-    ghost use Rattle.std.specs.Prelude.{List, ◌++◌, ◌<◌, length, flat_map};
-    ghost use Rattle.std.specs.List.{AllByRecursion};
+impl<R: Run> Model for Runs<R> {
+    ghost use Rattle.std.specs.Prelude.{List, ◌++◌, flat_map};
     ghost use Rattle.live_set.specs.Loads.{LoadValue};
-    ghost use Rattle.live_set.specs.Slots.{Rises};
-    ghost use Rattle.live_set.specs.LoadRuns.{loads_in};
+    ghost use Rattle.live_set.specs.LoadRuns.{loads_in, IsInRuns};
 
     ghost Value = { List LoadValue };
 
-    ghost view = { λ runs. runs.first.items ++ flat_map loads_in runs.later.items };
+    ghost view = { λ runs. R.loads runs.first ++ flat_map (loads_in R.loads) runs.later.items };
 
-    ghost invariant = { λ runs. Rises (runs.first.items ++ flat_map loads_in runs.later.items)
-        × AllByRecursion (λ run. 0 < length (loads_in run)) runs.later.items };
+    ghost invariant = { λ runs. IsInRuns (loads_in R.loads) (R.loads runs.first) runs.later.items runs.count };
 }
 
 /// Whether the run begins at or before the place of a load for this domain and locale.
-fn begins_by(run: &[Load], domain: &TextKey<'_>, locale: &TextKey<'_>) -> bool
-    ensures { result ≡ begins_by domain.now locale.now run.now }
+fn begins_by<R: Run>(run: &R, domain: &TextKey<'_>, locale: &TextKey<'_>) -> bool
+    ensures { result ≡ begins_by domain.now locale.now (R.loads run.now) }
 {
-    match run.first() {
-        Some(load) => load.compare(domain, locale).is_le(),
-        None => false,
+    match run.at(0) {
+        Ok(load) => load.compare(domain, locale).is_le(),
+        Err(_) => false,
     }
 }
 
 /// The index in `later` of the run where a load for this domain and locale belongs, or `None` if that is the first run.
 #[inline(always)]
-fn run_for(later: &[Arc<Vec<Load>>], domain: &TextKey<'_>, locale: &TextKey<'_>) -> Option<usize>
+fn run_for<R: Run>(later: &[Arc<R>], domain: &TextKey<'_>, locale: &TextKey<'_>) -> Option<usize>
     ensures bound { IfSome result (λ at. at < length later.now) }
-    ensures parted { IsPartitionedBy (λ run. begins_by domain.now locale.now (loads_in run)) later.now
-        → IsPartitionPoint (λ run. begins_by domain.now locale.now (loads_in run) ≡ true)
-        (λ run. begins_by domain.now locale.now (loads_in run) ≡ false) later.now (begun_count result) }
+    ensures parted { IsPartitionedBy (λ run. begins_by domain.now locale.now (loads_in R.loads run)) later.now
+        → IsPartitionPoint (λ run. begins_by domain.now locale.now (loads_in R.loads run) ≡ true)
+        (λ run. begins_by domain.now locale.now (loads_in R.loads run) ≡ false) later.now (begun_count result) }
 {
+    // A search in an empty list would take a few nanoseconds, which a look-up in a small set would notice.
+    if later.is_empty() {
+        return None;
+    }
     later
-        .partition_point(|run| begins_by(run, domain, locale))
+        .partition_point(|run| begins_by::<R>(run, domain, locale))
         .checked_sub(1)
 }
 
-/// The index of the load for this domain and locale in a run, or the index at which it would be inserted.
-fn slot(run: &[Load], domain: &TextKey<'_>, locale: &TextKey<'_>) -> Result<usize, usize>
-    requires { Rises run.now }
-    ensures found { IfOk result (IsAt run.now domain.now locale.now) }
-    ensures absent { IfErr result (IsGapFor run.now domain.now locale.now) }
-{
-    run.binary_search_by(|load| load.compare(domain, locale))
-}
-
-/// The load for this domain and locale in a run.
-fn load_in<'a>(run: &'a [Load], domain: &TextKey<'_>, locale: &TextKey<'_>) -> Option<&'a Load>
-    requires { Rises run.now }
-    ensures { option_map (λ load. load.now) result ≡ find (is_for domain.now locale.now) run.now }
-{
-    match slot(run, domain, locale) {
-        Ok(at) => Some(&run[at]),
-        Err(_) => None,
-    }
-}
-
-/// The index of the load for this domain and locale in a run, if there is one.
-fn index_in(run: &[Load], domain: &TextKey<'_>, locale: &TextKey<'_>) -> Option<usize>
-    requires { Rises run.now }
-    ensures { MatchOption result (find (is_for domain.now locale.now) run.now ≡ None)
-        (IsAt run.now domain.now locale.now) }
-{
-    match slot(run, domain, locale) {
-        Ok(at) => Some(at),
-        Err(_) => None,
-    }
-}
-
-/// The loads of a run that copies share.
-#[inline(always)]
-fn loads_of(run: &Arc<Vec<Load>>) -> &[Load]
-    ensures { result.now ≡ loads_in run.now }
-{
-    run.as_slice()
-}
-
 /// How many loads there are in these runs, or 2^64 - 1 if there are more.
-fn count_in(runs: &[Arc<Vec<Load>>]) -> usize
-    ensures { result ≡ min (length (flat_map loads_in runs.now)) 18446744073709551615 }
+fn count_in<R: Run>(first: &R, later: &[Arc<R>]) -> usize
+    ensures { result ≡ min (length (R.loads first.now ++ flat_map (loads_in R.loads) later.now))
+        18446744073709551615 }
 {
-    let mut count = 0usize;
-    'runs: for run in runs {
-        count = count.saturating_add(run.len());
+    let mut count = first.count();
+    'runs: for run in later {
+        count = count.saturating_add(run.count());
     }
     count
 }
 
-/// The load with this index in runs.
-fn load_at(runs: &[Arc<Vec<Load>>], place: usize) -> Option<&Load>
-    ensures { option_map (λ load. load.now) result ≡ slice_get (flat_map loads_in runs.now) place }
+/// Like `Run::at`, for the loads of consecutive runs.
+fn load_in<R: Run>(runs: &[Arc<R>], index: usize) -> Result<&Load, usize>
+    ensures { IsLoadAt (flat_map (loads_in R.loads) runs.now) index result }
 {
-    let mut left = place;
+    let mut left = index;
     'runs: for run in runs {
-        let loads = loads_of(run);
-        if left < loads.len() {
-            return Some(&loads[left]);
+        match run.at(left) {
+            Ok(load) => return Ok(load),
+            Err(rest) => left = rest,
         }
-        left -= loads.len();
     }
-    None
-}
-
-/// Inserts a copy of a load into a run. If the run has a load for its domain and locale, that one gets its catalogue,
-/// and keeps its own two names: whoever reads them in another set has their cache lines.
-fn put_in(run: &mut Vec<Load>, load: &Load) -> Result<(), AllocError>
-    requires { Rises run.old.items }
-    ensures { MatchResult result (λ _. run.new.items ≡ with_slot run.old.items load.now)
-        (λ _. run.new.items ≡ run.old.items) }
-{
-    match slot(run, &load.domain(), &load.locale()) {
-        Ok(at) => {
-            let catalogue = Arc::try_clone(&load.catalogue)?;
-            run[at].replace_catalogue(catalogue);
-            Ok(())
-        }
-        Err(at) => Ok(run.insert(at, load.try_clone()?)?),
-    }
-}
-
-/// A copy of a run that shares its catalogues.
-fn copied(alloc: Global, run: &[Load]) -> Result<Vec<Load>, AllocError>
-    ensures { IfOk result (λ copy. copy.items ≡ run.now) }
-{
-    let mut copy = Vec::with_capacity(alloc, run.len())?;
-    'loads: for load in run {
-        copy.push(load.try_clone()?)?;
-    }
-    Ok(copy)
+    Err(left)
 }
 
 /// Copies the run if anybody else has it, so that it can be written to.
-fn unshare(run: &mut Arc<Vec<Load>>) -> Result<(), AllocError>
-    ensures { loads_in run.new ≡ loads_in run.old }
+fn unshare<R: Run>(alloc: Global, run: &mut Arc<R>) -> Result<(), AllocError>
+    ensures { loads_in R.loads run.new ≡ loads_in R.loads run.old }
 {
     if Arc::strong_count(run) > 1 {
-        let alloc = *run.allocator();
-        let copy = copied(alloc, run)?;
+        let copy = run.try_clone(alloc)?;
         *run = Arc::new(alloc, copy)?;
     }
     Ok(())
 }
 
-/// Like `put_in`, for a run that others may have: they keep it as it is.
-fn put_in_shared(run: &mut Arc<Vec<Load>>, load: &Load) -> Result<(), AllocError>
-    requires { Rises (loads_in run.old) }
-    ensures { MatchResult result (λ _. loads_in run.new ≡ with_slot (loads_in run.old) load.now)
-        (λ _. loads_in run.new ≡ loads_in run.old) }
+/// Like `Run::put`, for a run that others may have: they keep it as it is.
+fn put_shared<R: Run>(alloc: Global, run: &mut Arc<R>, load: &Load) -> Result<(), AllocError>
+    requires { Rises (loads_in R.loads run.old) }
+    ensures { MatchResult result
+        (λ _. loads_in R.loads run.new ≡ with_slot (loads_in R.loads run.old) load.now)
+        (λ _. loads_in R.loads run.new ≡ loads_in R.loads run.old) }
 {
-    unshare(run)?;
+    unshare(alloc, run)?;
     match Arc::get_mut(run) {
-        Some(run) => put_in(run, load),
+        Some(run) => run.put(load),
         None => Err(AllocError),
     }
 }
 
-/// Moves the loads from the 65th on to a run of their own.
-fn split(run: &mut Vec<Load>) -> Result<Arc<Vec<Load>>, AllocError>
-    requires { 64 ≤ length run.old.items }
-    ensures { MatchResult result (λ upper. (run.new.items ≡ take 64 run.old.items)
-        × (loads_in upper ≡ drop 64 run.old.items)) (λ _. run.new.items ≡ run.old.items) }
+/// Moves the loads of a run to where copies can share them.
+fn share<R: Run>(alloc: Global, run: &mut R) -> Result<Arc<R>, AllocError>
+    ensures { MatchResult result
+        (λ shared. (R.loads run.new ≡ []) × (loads_in R.loads shared ≡ R.loads run.old))
+        (λ _. R.loads run.new ≡ R.loads run.old) }
 {
-    let alloc = *run.allocator();
-    let mut upper = Arc::new(alloc, Vec::new(alloc))?;
+    let mut shared = Arc::new(alloc, R::empty(alloc))?;
+    match Arc::get_mut(&mut shared) {
+        Some(place) => {
+            mem::swap(place, run);
+            Ok(shared)
+        }
+        None => Err(AllocError),
+    }
+}
+
+/// Like `Run::halve`, with the upper half where copies can share it.
+fn halve<R: Run>(alloc: Global, run: &mut R) -> Result<Arc<R>, AllocError>
+    ensures { MatchResult result (λ upper. IsCut (R.loads run.old) (R.loads run.new) (loads_in R.loads upper))
+        (λ _. R.loads run.new ≡ R.loads run.old) }
+{
+    let mut upper = Arc::new(alloc, R::empty(alloc))?;
     match Arc::get_mut(&mut upper) {
         Some(place) => {
-            *place = run.split_off(RUN_LIMIT / 2)?;
+            *place = run.halve()?;
             Ok(upper)
         }
         None => Err(AllocError),
     }
 }
 
-/// Like `split`, for a run that others may have: they keep it as it is.
-fn split_shared(run: &mut Arc<Vec<Load>>) -> Result<Arc<Vec<Load>>, AllocError>
-    requires { 64 ≤ length (loads_in run.old) }
-    ensures { MatchResult result (λ upper. (loads_in run.new ≡ take 64 (loads_in run.old))
-        × (loads_in upper ≡ drop 64 (loads_in run.old)))
-        (λ _. loads_in run.new ≡ loads_in run.old) }
+/// Like `halve`, for a run that others may have: they keep it as it is.
+fn halve_shared<R: Run>(alloc: Global, run: &mut Arc<R>) -> Result<Arc<R>, AllocError>
+    ensures { MatchResult result
+        (λ upper. IsCut (loads_in R.loads run.old) (loads_in R.loads run.new) (loads_in R.loads upper))
+        (λ _. loads_in R.loads run.new ≡ loads_in R.loads run.old) }
 {
-    unshare(run)?;
+    unshare(alloc, run)?;
     match Arc::get_mut(run) {
-        Some(run) => split(run),
+        Some(run) => halve(alloc, run),
         None => Err(AllocError),
     }
 }
 
-impl LoadRuns {
-    /// No loads.
-    pub(crate) fn new(alloc: Global) -> LoadRuns
-        ensures { result ≡ [] }
-    {
-        LoadRuns {
-            first: Vec::new(alloc),
-            later: Vec::new(alloc),
-        }
-    }
-
-    /// The load for this domain and locale, if there is one.
-    pub(crate) fn get(&self, domain: &TextKey<'_>, locale: &TextKey<'_>) -> Option<&Load>
-        ensures { option_map (λ load. load.now) result ≡ find (is_for domain.now locale.now) self.now }
-    {
-        match run_for(&self.later, domain, locale) {
-            None => load_in(&self.first, domain, locale),
-            Some(at) => load_in(loads_of(&self.later[at]), domain, locale),
-        }
-    }
-
-    /// The place of the load for this domain and locale, if there is one: its index, or 2^64 - 1 if that is larger.
-    pub(crate) fn place(&self, domain: &TextKey<'_>, locale: &TextKey<'_>) -> Option<usize>
-        ensures { MatchOption result (find (is_for domain.now locale.now) self.now ≡ None)
-            (IsPlaceFor self.now domain.now locale.now) }
-    {
-        match run_for(&self.later, domain, locale) {
-            None => index_in(&self.first, domain, locale),
-            Some(at) => {
-                let inside = index_in(loads_of(&self.later[at]), domain, locale)?;
-                let before = self.first.len().saturating_add(count_in(&self.later[..at]));
-                Some(before.saturating_add(inside))
-            }
-        }
-    }
-
+impl<R: Run> Runs<R> {
     /// The load at a place, if there is one.
     #[inline(always)]
-    pub(crate) fn at(&self, place: usize) -> Option<&Load>
+    pub(crate) fn load_at(&self, place: usize) -> Option<&Load>
         ensures { option_map (λ load. load.now) result ≡ slice_get self.now place }
     {
-        match place.checked_sub(self.first.len()) {
-            None => Some(&self.first[place]),
-            Some(left) => load_at(&self.later, left),
-        }
+        self.at(place).ok()
     }
 
-    /// Splits the run where the load belongs if it is full.
+    /// If the run where the load belongs is full, makes another one: it halves a later run, and shares the first one.
     fn make_room(&mut self, load: &Load) -> Result<(), AllocError>
         ensures { self.new ≡ self.old }
     {
         match run_for(&self.later, &load.domain(), &load.locale()) {
             None => {
-                if self.first.len() >= RUN_LIMIT {
+                if self.first.is_full() {
                     self.later.reserve(1)?;
-                    let upper = split(&mut self.first)?;
-                    self.later.insert(0, upper)?;
+                    let alloc = *self.later.allocator();
+                    let full = share(alloc, &mut self.first)?;
+                    self.later.insert(0, full)?;
                 }
             }
             Some(at) => {
-                if loads_of(&self.later[at]).len() >= RUN_LIMIT {
+                if self.later[at].is_full() {
                     self.later.reserve(1)?;
-                    let upper = split_shared(&mut self.later[at])?;
+                    let alloc = *self.later.allocator();
+                    let upper = halve_shared(alloc, &mut self.later[at])?;
                     self.later.insert(at + 1, upper)?;
                 }
             }
         }
         Ok(())
     }
+}
 
-    /// Inserts a copy of a load, replacing the one for its domain and locale if there is one. If memory runs out, it
-    /// fails and the loads are unchanged.
-    pub(crate) fn put(&mut self, load: &Load) -> Result<(), AllocError>
+impl<R: Run> Run for Runs<R> {
+    ghost loads = { λ runs. runs };
+
+    fn empty(alloc: Global) -> Runs<R>
+        ensures { result ≡ [] }
+    {
+        Runs {
+            first: R::empty(alloc),
+            later: Vec::new(alloc),
+            count: 0,
+        }
+    }
+
+    fn count(&self) -> usize {
+        self.count
+    }
+
+    #[inline(always)]
+    fn at(&self, index: usize) -> Result<&Load, usize>
+        ensures { IsLoadAt self.now index result }
+    {
+        match self.first.at(index) {
+            Ok(load) => Ok(load),
+            // None of the other runs is looked at if none has the load. A count of 2^64 - 1 doesn't tell.
+            Err(_) if self.count <= index && self.count < usize::MAX => Err(index - self.count),
+            Err(left) => load_in(&self.later, left),
+        }
+    }
+
+    #[inline(always)]
+    fn get(&self, domain: &TextKey<'_>, locale: &TextKey<'_>) -> Option<&Load>
+        ensures { option_map (λ load. load.now) result ≡ find (is_for domain.now locale.now) self.now }
+    {
+        match run_for(&self.later, domain, locale) {
+            None => self.first.get(domain, locale),
+            Some(at) => self.later[at].get(domain, locale),
+        }
+    }
+
+    #[inline(always)]
+    fn place(&self, domain: &TextKey<'_>, locale: &TextKey<'_>) -> Option<usize>
+        ensures { MatchOption result (find (is_for domain.now locale.now) self.now ≡ None)
+            (IsPlaceFor self.now domain.now locale.now) }
+    {
+        match run_for(&self.later, domain, locale) {
+            None => self.first.place(domain, locale),
+            Some(at) => {
+                let inside = self.later[at].place(domain, locale)?;
+                let before = count_in(&self.first, &self.later[..at]);
+                Some(before.saturating_add(inside))
+            }
+        }
+    }
+
+    fn is_full(&self) -> bool
+        ensures { result ≡ true → 0 < length self.now }
+    {
+        self.later.len() >= RUN_LIMIT
+    }
+
+    fn halve(&mut self) -> Result<Runs<R>, AllocError>
+        ensures { MatchResult result (λ upper. IsCut self.old self.new upper) (λ _. self.new ≡ self.old) }
+    {
+        let middle = self.later.len() / 2;
+        if middle == 0 {
+            return Err(AllocError);
+        }
+        let first = R::empty(*self.later.allocator());
+        let later = self.later.split_off(middle)?;
+        self.count = count_in(&self.first, &self.later);
+        let count = count_in(&first, &later);
+        Ok(Runs {
+            first,
+            later,
+            count,
+        })
+    }
+
+    fn put(&mut self, load: &Load) -> Result<(), AllocError>
         ensures { MatchResult result (λ _. self.new ≡ with_slot self.old load.now) (λ _. self.new ≡ self.old) }
     {
         self.make_room(load)?;
         match run_for(&self.later, &load.domain(), &load.locale()) {
-            None => put_in(&mut self.first, load),
-            Some(at) => put_in_shared(&mut self.later[at], load),
+            None => {
+                let before = self.first.count();
+                let put = self.first.put(load);
+                self.count = self.count.saturating_add(self.first.count() - before);
+                put
+            }
+            Some(at) => {
+                let alloc = *self.later.allocator();
+                let run = &mut self.later[at];
+                let before = run.count();
+                let put = put_shared(alloc, run, load);
+                self.count = self.count.saturating_add(run.count() - before);
+                put
+            }
         }
     }
 
-    /// A copy that shares the runs but the first one. Fails if memory runs out.
-    pub(crate) fn try_clone(&self, alloc: Global) -> Result<LoadRuns, AllocError>
+    fn try_clone(&self, alloc: Global) -> Result<Runs<R>, AllocError>
         ensures { IfOk result (λ runs. runs ≡ self.now) }
     {
         let mut later = Vec::with_capacity(alloc, self.later.len())?;
         'runs: for run in &self.later {
             later.push(Arc::try_clone(run)?)?;
         }
-        Ok(LoadRuns {
-            first: copied(alloc, &self.first)?,
+        Ok(Runs {
+            first: self.first.try_clone(alloc)?,
             later,
+            count: self.count,
         })
     }
 }

@@ -9,6 +9,7 @@ ghost use Rattle.catalogue.specs.Map.{entry_at};
 ghost use Rattle.catalogue.specs.Value.{IsTranslatedWithNul};
 ghost use Rattle.live_set.specs.Asks.{HasAnswer, map_with, query_of, Plain, Context, Number, ContextNumber};
 
+use crate::run::Run;
 use crate::runs::LoadRuns;
 use crate::{Ask, Load, Query};
 use byte_text::TextKey;
@@ -40,7 +41,7 @@ impl CatalogueSet {
     {
         CatalogueSet {
             version: 0,
-            held: LoadRuns::new(alloc),
+            held: LoadRuns::empty(alloc),
         }
     }
 
@@ -74,7 +75,7 @@ impl CatalogueSet {
     pub(crate) fn catalogue_at(&self, place: usize) -> Option<&Catalogue>
         ensures { option_map (λ c. c.now) result ≡ option_map (λ l. l.map) (slice_get self.now.held place) }
     {
-        let load = self.held.at(place)?;
+        let load = self.held.load_at(place)?;
         Some(load.catalogue())
     }
 

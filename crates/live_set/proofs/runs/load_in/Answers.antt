@@ -1,11 +1,11 @@
-use Rattle.std.proofs.Common.{sym}
-use Rattle.live_set.proofs.Slotting.{find_at, find_gap}
+use Rattle.live_set.proofs.Kit.{slice_get, ap, sym, ◌∙◌, arith, loads_in}
+use Rattle.live_set.proofs.Indexing.{load_here}
 use Rattle.live_set.proofs.runs.load_in.Goals as goal
 
 pub returns-in-Ok : goal.returns-in-Ok
-returns-in-Ok c = sym (find_at c.args.run.now c.args.domain.now c.args.locale.now c.in-Ok.at c.index-run-at.result
-    c.requires c.in-Ok.ensures.found c.index-run-at.is)
-
-pub returns-in-Err : goal.returns-in-Err
-returns-in-Err c = sym (find_gap c.args.run.now c.args.domain.now c.args.locale.now c.in-Err.field-0
-    c.in-Err.ensures.absent)
+returns-in-Ok g c =
+    let of = g.R.Run.loads in
+    load_here (loads_in of) c.args.runs.now c.runs.run-index c.run-item.result
+    (omega (arith, c.runs-test.true, c.runs.auto.run-index-end)) c.run-item.is c.args.index c.runs.left
+    c.runs.invariant c.in-Ok.load.now
+    (ap (λ r. slice_get (of r) c.runs.left) (sym c.deref.ensures) ∙ c.in-Ok.ensures)
