@@ -71,6 +71,15 @@ impl Catalogue {
         Catalogue::from_image(alloc, Image::copied(alloc, file)?)
     }
 
+    /// Makes a catalogue of its MO file as `from_file` does, and keeps the file's memory. The only error is a failed
+    /// allocation.
+    pub fn from_owned_file(alloc: Global, file: Vec<u8>) -> Result<Catalogue, AllocError>
+        requires { (m : List Entry) × IsFileOf file.items m }
+        ensures { IfOk result (λ catalogue. IsFileOf file.items catalogue) }
+    {
+        Catalogue::from_image(alloc, Image::of_file(file))
+    }
+
     /// Makes a catalogue of a list of entries.
     pub(crate) fn from_list<L: EntryList>(alloc: Global, list: &L) -> Result<Catalogue, AllocError>
         requires { IsLawful (L.entries list.now) }

@@ -1,7 +1,7 @@
 -- The entries that the tables of a file name.
 use Rattle.std.proofs.Common.{◌++◌, ◌-◌, append_assoc, ◌≡◌, Bool, true, false, cond, Option, Some, ℕ, zero, suc, ◌+◌}
 use Rattle.std.proofs.Common.{◌*◌, ◌<◌, ◌≤◌, List, [], ◌∷◌, length, map, refl, sym, ap, ◌∙◌, subst, arith}
-use Rattle.std.specs.Prelude.{option_map, IfSome, OnOk, Result, Ok, Err}
+use Rattle.std.specs.Prelude.{option_map, IfOk, IfSome, OnOk, Result, Ok, Err}
 use Rattle.std.specs.List.{AllByRecursion}
 use Rattle.std.specs.Str.{bytes_eq}
 use Rattle.std.specs.Ordering.{nat_cmp}
@@ -179,6 +179,14 @@ pub checked : (bytes : List ℕ) (r : Result (Unit {0}) MoFault) → OnOk r (Pas
     → OnOk r (IsMoFile bytes)
 checked bytes (Ok x) passed = (named_in (order bytes) bytes, is_mo bytes passed)
 checked bytes (Err f) passed = tt
+
+-- what is read in the byte order of the magic number
+pub read_in_order : {E : Type 0} (bytes : List ℕ) (number : ℕ → List ℕ → ℕ) (r : Result (List Entry) E)
+    → order bytes ≡ number → PassesBelow (file_of bytes) 12 → IfOk r (λ c. c ≡ named_in number bytes)
+    → IfOk r (Mo bytes)
+read_in_order bytes number (Ok c) is passed made =
+    subst (Mo bytes) (sym (made ∙ ap (λ (n : ℕ → List ℕ → ℕ). named_in n bytes) (sym is))) (is_mo bytes passed)
+read_in_order bytes number (Err e) is passed made = tt
 
 -- ---- the entries that are read, one after another
 

@@ -9,7 +9,7 @@ use Rattle.std.proofs.lemmas.List.{length-map}
 use Rattle.byteorder.specs.Endian.{little_number}
 use Rattle.catalogue.specs.Entry.{Entry, key, original, translation, IsLawfulEntry}
 use Rattle.catalogue.specs.MoFile.{file, spelling}
-use Rattle.catalogue.specs.Map.{first_form, HasAcceptedCharset, IsLawful}
+use Rattle.catalogue.specs.Map.{first_form, HasAcceptedCharset, IsFileOf, IsLawful}
 use Rattle.mo_image.proofs.EntryParts.{key_lacks_nul, split_joined, some_form, lack_nul}
 use Rattle.mo_image.proofs.Lists.{slice_get-map, at_index}
 use Rattle.entry_search.proofs.Searching.{rises_pair, find_some}
@@ -210,3 +210,7 @@ module _ (m : List Entry) (lawful : IsLawful m) where
     originals = ordered.1;
     translations = ordered.2;
   }
+
+-- a file in the layout that is written
+pub file_is_read : (bytes : List ℕ) (m : List Entry) → IsFileOf bytes m → Mo bytes m
+file_is_read written m of = subst (λ (b : List ℕ). Mo b m) (sym of.spelt) (reads_back m of.lawful)

@@ -3,3 +3,4 @@ pub mod Tables
 pub mod MoReading
 pub mod Pairs
 pub mod Behind
+pub mod Owned

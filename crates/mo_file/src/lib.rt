@@ -10,6 +10,6 @@ mod write;
 
 pub use fault::MoFault;
 pub use laws::{one_map, written_is_read};
-pub use read::{read_mo, reread};
+pub use read::{Unread, read_mo, read_owned_mo, reread};
 pub use refusals::{check, is_low_first, passes_bounds, passes_closing, passes_size};
 pub use write::write_mo;

@@ -1,9 +1,12 @@
 //! Reading MO files.
-ghost use Rattle.std.specs.Prelude.{◌≡◌, ◌+◌, ◌^◌, ◌<◌, ◌≤◌, length, IfOk, IfErr, Some, option_map};
+ghost use Rattle.std.specs.Prelude.{◌≡◌, ◌+◌, ◌^◌, ◌<◌, ◌≤◌, length, IfOk, IfErr, IsTrue, Some, option_map};
 ghost use Rattle.std.specs.Str.{IsUtf8};
 ghost use Rattle.mo_file.specs.Tables.{string_at};
 ghost use Rattle.mo_file.specs.MoReading.{table_at, file_by, StringLies, before_nul, TableLies, AreOriginalTexts};
-ghost use Rattle.mo_file.specs.MoReading.{AreTranslationTexts, PassesBelow, Refused, Mo};
+ghost use Rattle.byteorder.specs.Endian.{little_number};
+ghost use Rattle.catalogue.specs.Map.{IsFileOf};
+ghost use Rattle.mo_file.specs.MoReading.{file_of, AreTranslationTexts, PassesBelow, Refused, Mo};
+ghost use Rattle.mo_file.specs.Owned.{IsUnread};
 ghost use Rattle.mo_file.specs.Pairs.{plural_part, entry_of, entries_of_rows, named_in};
 
 use crate::fault::MoFault;
@@ -86,6 +89,26 @@ fn read_file<T: ByteOrder>(alloc: Global, bytes: &[u8]) -> Result<Catalogue, All
     Catalogue::from_strings(alloc, entries)
 }
 
+/// Reads the map of a file that has passed all tests, in the byte order of its magic number.
+fn read_strings(alloc: Global, bytes: &[u8]) -> Result<Catalogue, AllocError>
+    requires { PassesBelow (file_of bytes.now) 12 }
+    ensures { IfOk result (Mo bytes.now) }
+{
+    if is_low_first(bytes) {
+        read_file::<LittleEndian>(alloc, bytes)
+    } else {
+        read_file::<BigEndian>(alloc, bytes)
+    }
+}
+
+/// Whether a file that has passed all tests is in the layout of `write_mo`.
+fn is_written(bytes: &[u8]) -> bool
+    requires { PassesBelow (file_of bytes.now) 12 }
+    ensures { IsTrue result → IsFileOf bytes.now (named_in little_number bytes.now) }
+{
+    is_low_first(bytes) && is_own(bytes)
+}
+
 /// Reads an MO file in either byte order, wherever its strings lie (GNU gettext manual, "MO Files"). The hash table is
 /// ignored. A file in the layout of `write_mo` is copied as a whole.
 ///
@@ -95,13 +118,47 @@ pub fn read_mo(alloc: Global, bytes: &[u8]) -> Result<Catalogue, MoFault>
     ensures err { IfErr result (λ f. Refused bytes.now f) }
 {
     check_all(alloc, bytes)?;
-    if !is_low_first(bytes) {
-        return Ok(read_file::<BigEndian>(alloc, bytes)?);
-    }
-    if is_own(bytes) {
+    if is_written(bytes) {
         return Ok(Catalogue::from_file(alloc, bytes)?);
     }
-    Ok(read_file::<LittleEndian>(alloc, bytes)?)
+    Ok(read_strings(alloc, bytes)?)
+}
+
+/// Reads the map of a file that has passed all tests, and keeps a file in the layout of `write_mo`.
+fn read_owned(alloc: Global, bytes: Vec<u8>) -> Result<Catalogue, AllocError>
+    requires { PassesBelow (file_of bytes.items) 12 }
+    ensures { IfOk result (Mo bytes.items) }
+{
+    if is_written(&bytes) {
+        return Ok(Catalogue::from_owned_file(alloc, bytes)?);
+    }
+    read_strings(alloc, &bytes)
+}
+
+/// Why `read_owned_mo` made no catalogue.
+#[derive(Drop)]
+pub struct Unread {
+    pub fault: MoFault,
+    /// The bytes as they were, or none if the fault is `MoFault::Memory`.
+    pub bytes: Vec<u8>,
+}
+
+/// Reads an MO file as `read_mo` does, and keeps a file in the layout of `write_mo` instead of copying it. Bytes that
+/// are refused come back with the reason.
+pub fn read_owned_mo(alloc: Global, bytes: Vec<u8>) -> Result<Catalogue, Unread>
+    ensures ok { IfOk result (Mo bytes.items) }
+    ensures err { IfErr result (IsUnread bytes.items) }
+{
+    if let Err(fault) = check_all(alloc, &bytes) {
+        return Err(Unread { fault, bytes });
+    }
+    match read_owned(alloc, bytes) {
+        Ok(catalogue) => Ok(catalogue),
+        Err(_) => Err(Unread {
+            fault: MoFault::Memory,
+            bytes: Vec::new(alloc),
+        }),
+    }
 }
 
 /// Writes a catalogue and reads it back. The result is the same map; the only error is `MoFault::Memory`.

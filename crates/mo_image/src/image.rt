@@ -176,6 +176,14 @@ impl Image {
         Ok(Image { bytes })
     }
 
+    /// Makes the image of an MO file, which it keeps as it is.
+    pub fn of_file(file: Vec<u8>) -> Image
+        requires { (m : List Entry) × IsFileOf file.items m }
+        ensures { IsFileOf file.items result }
+    {
+        Image { bytes: file }
+    }
+
     /// Makes the image of an MO file, by copying it. The only error is a failed allocation.
     pub fn copied(alloc: Global, file: &[u8]) -> Result<Image, AllocError>
         requires { (m : List Entry) × IsFileOf file.now m }
@@ -183,7 +191,7 @@ impl Image {
     {
         let mut bytes = Vec::with_capacity(alloc, file.len())?;
         bytes.extend_from_slice(file)?;
-        Ok(Image { bytes })
+        Ok(Image::of_file(bytes))
     }
 
     /// The number of entries.

@@ -34,24 +34,23 @@ segments_lack file table n fault there start count h = record {
       (subst (λ (at : ℕ). LacksSomeSegment file.number file.bytes at n fault) start h));
 }
 
--- the file of revision 0.0 was written of `slice`, and read from `bytes`
-pub flat_fails : {X Y : Type 0} (items : Y → List ℕ) (messages : List Strings) (kept slice : List Held) (o : Option Y)
-    (v : Y) (bytes : List ℕ) (r : Result X MoFault) → AreKept messages (strings_of kept) → slice ≡ kept
+-- the file of revision 0.0 was written of `slice`, and is refused
+pub flat_fails : {Y : Type 0} (items : Y → List ℕ) (messages : List Strings) (kept slice : List Held) (o : Option Y)
+    (v : Y) (fault : MoFault) → AreKept messages (strings_of kept) → slice ≡ kept
     → MatchOption o (most_file < length (flat_file (strings_of slice))) (λ f. (items f ≡ flat_file (strings_of slice))
-    × (length (flat_file (strings_of slice)) ≤ most_file)) → o ≡ Some v → bytes ≡ items v
-    → IfErr r (λ f. Refused bytes f) → IfErr r (HasNoCatalogue messages)
-flat_fails items messages kept slice o v bytes (Ok x) are same written is read h = tt
-flat_fails {Y = Y} items messages kept slice o v bytes (Err fault) are same written is read h =
+    × (length (flat_file (strings_of slice)) ≤ most_file)) → o ≡ Some v → Refused (items v) fault
+    → HasNoCatalogue messages fault
+flat_fails {Y = Y} items messages kept slice o v fault are same written is refused =
     let flat : (items v ≡ flat_file (strings_of slice)) × (length (flat_file (strings_of slice)) ≤ most_file) =
     subst (λ (p : Option Y). MatchOption p (most_file < length (flat_file (strings_of slice)))
     (λ f. (items f ≡ flat_file (strings_of slice)) × (length (flat_file (strings_of slice)) ≤ most_file))) is written in
-    let of_kept : bytes ≡ flat_file (strings_of kept) =
-    read ∙ flat.0 ∙ ap (λ (k : List Held). flat_file (strings_of k)) same in
+    let of_kept : items v ≡ flat_file (strings_of kept) =
+    flat.0 ∙ ap (λ (k : List Held). flat_file (strings_of k)) same in
     inr (record {
       kept = strings_of kept;
       are_kept = are;
       fails = inr (
         subst (λ (k : List Held). length (flat_file (strings_of k)) ≤ most_file) same flat.1,
-        subst (λ (b : List ℕ). Refused b fault) of_kept h,
+        subst (λ (b : List ℕ). Refused b fault) of_kept refused,
       );
     })

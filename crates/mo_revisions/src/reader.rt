@@ -13,7 +13,7 @@ use crate::header::minor;
 use crate::statics::{check_static, static_messages};
 use byteorder::{BigEndian, ByteOrder, LittleEndian};
 use catalogue::Catalogue;
-use mo_file::{MoFault, is_low_first, read_mo};
+use mo_file::{MoFault, is_low_first, read_mo, read_owned_mo};
 use mo_segments::{Strings, kept, write_flat};
 use std::alloc::Global;
 
@@ -55,9 +55,12 @@ pub fn catalogue_of(alloc: Global, messages: Vec<Strings>) -> Result<Catalogue, 
     ensures err { IfErr result (HasNoCatalogue (strings_of messages.items)) }
 {
     let kept = kept(alloc, messages)?;
-    match write_flat(alloc, kept.as_slice())? {
-        Some(file) => read_mo(alloc, file.as_slice()),
-        None => Err(MoFault::Swollen),
+    let Some(file) = write_flat(alloc, kept.as_slice())? else {
+        return Err(MoFault::Swollen)
+    };
+    match read_owned_mo(alloc, file) {
+        Ok(catalogue) => Ok(catalogue),
+        Err(unread) => Err(unread.fault),
     }
 }
 
