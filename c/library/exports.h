@@ -8,8 +8,8 @@
 #include <stddef.h>
 #include <stdint.h>
 
-/* A catalogue or why it was refused; what was made of one or of a PO text; a set, a reader that lends one, or why there is none; and a
- * live store's parts. */
+/* A catalogue, why it was refused, or the bytes that are handed over for one; what was made of a catalogue or of a PO
+ * text; a set, a reader that lends one, or why there is none; and a live store's parts. */
 struct held_catalogue;
 struct held_output;
 struct held_set;
@@ -35,22 +35,25 @@ enum { GETTEXT = 0, IN_CONTEXT = 1, WITH_NUMBER = 2 };
 /* The hint that says nothing. */
 #define NO_HINT UINT64_MAX
 
-/* `which` of each ..._number, and `part` of kobdzila_text. A fault is one of enum kob_fault, or BUSY, for which the
- * header's functions return 0 or NULL. */
+/* `which` of each ..._number, and `part` of kobdzila_text. A fault is one of enum kob_fault; or BUSY, for which the
+ * header's functions return 0 or NULL; or WANTED_AGAIN, for a PO text that is to be opened by kobdzila_open_po. */
 enum { FAULT = 0 };
 enum { LINE = 1, COUNT = 2, FORMS = 3, HAS_CONTEXT = 4, HAS_PLURAL = 5 };
 enum { TRANSLATED = 6, FUZZY = 7, UNTRANSLATED = 8 };
 enum { FAULT_LINE = 3, FAULT_LANGUAGE = 4, FAULT_FORM = 5, FAULT_DIFFERENCE = 6 };
 enum { VERSION = 1, PENDING = 2, RETAINED = 3 };
 enum { FILE_BYTES = 0, CONTEXT = 1, MSGID = 2, PLURAL = 3, FORM = 4 };
-enum { BUSY = 203 };
+enum { BUSY = 203, WANTED_AGAIN = 205 };
 
 /* ---- catalogues */
 size_t kobdzila_size(void);
-void kobdzila_open_mo(const unsigned char *bytes, size_t len, uint32_t strict, uint32_t without_index,
-                      struct held_catalogue *out);
 void kobdzila_open_po(const unsigned char *bytes, size_t len, uint32_t checked, uint32_t use_fuzzy, uint32_t strict,
                       uint32_t without_index, struct held_catalogue *out);
+void kobdzila_bytes_new(uint64_t len, struct held_catalogue *out);
+void kobdzila_bytes_add(const unsigned char *piece, size_t len, struct held_catalogue *held);
+void kobdzila_bytes_open_mo(uint32_t strict, uint32_t without_index, struct held_catalogue *held);
+void kobdzila_bytes_open_po(uint32_t checked, uint32_t use_fuzzy, uint32_t strict, uint32_t without_index,
+                            struct held_catalogue *held);
 void kobdzila_close(struct held_catalogue *catalogue);
 uint64_t kobdzila_number(const struct held_catalogue *catalogue, uint32_t which, uint64_t index);
 void kobdzila_text(const struct held_catalogue *catalogue, uint32_t part, uint64_t index, uint64_t form,

@@ -12,6 +12,7 @@
 #include <unistd.h>
 
 #define FIRST_ROOM 65536
+#define PIECE 16384
 
 /* Open a file for reading, with O_CLOEXEC; -1 and errno on failure. Opening doesn't wait for a FIFO's writer, but reads
  * from the descriptor do wait. */
@@ -102,16 +103,60 @@ unsigned char *opened_bytes(int file, enum kinds_of_files kinds, size_t most, si
     return NULL;
 }
 
-/* A thread that is cancelled meanwhile goes on to the end: it would leave the descriptor and the block behind. */
-unsigned char *file_bytes(const char *name, enum kinds_of_files kinds, size_t most, size_t *len) {
-    int cancelled_how;
-    pthread_setcancelstate(PTHREAD_CANCEL_DISABLE, &cancelled_how);
-    int file = open_to_read(name);
-    unsigned char *bytes = file < 0 ? NULL : opened_bytes(file, kinds, most, len);
+/* Give at most `most` bytes of an open file to a taker. False if it can't be read. */
+static int give_pieces(int file, size_t most, size_t *len, struct taker taker) {
+    unsigned char piece[PIECE];
+    *len = 0;
+    for (;;) {
+        size_t wanted = most - *len < PIECE ? most - *len : PIECE, got = 0;
+        if (!fill(file, piece, wanted, &got))
+            return 0;
+        taker.add(taker.to, piece, got);
+        *len += got;
+        if (got < wanted || *len == most)
+            return 1;
+    }
+}
+
+int opened_pieces(int file, size_t most, size_t *len, struct taker taker) {
+    unsigned mode;
+    unsigned long long size;
+    if (!look_at(file, &mode, &size))
+        return 0;
+    /* files in /proc report size 0 */
+    int has_size = S_ISREG(mode) && size > 0;
+    if (has_size && size > most) {
+        *len = most + 1;
+        return 1;
+    }
+    taker.begin(taker.to, has_size ? (size_t)size : 0);
+    return give_pieces(file, has_size ? (size_t)size : most + 1, len, taker);
+}
+
+int is_regular(int file) {
+    unsigned mode;
+    unsigned long long size;
+    return look_at(file, &mode, &size) && S_ISREG(mode);
+}
+
+struct open_file begin_reading(const char *name) {
+    struct open_file file;
+    pthread_setcancelstate(PTHREAD_CANCEL_DISABLE, &file.cancelled_how);
+    file.number = open_to_read(name);
+    return file;
+}
+
+void end_reading(struct open_file file) {
     int cause = errno;
-    if (file >= 0)
-        close(file);
-    pthread_setcancelstate(cancelled_how, NULL);
+    if (file.number >= 0)
+        close(file.number);
+    pthread_setcancelstate(file.cancelled_how, NULL);
     errno = cause;
+}
+
+unsigned char *file_bytes(const char *name, enum kinds_of_files kinds, size_t most, size_t *len) {
+    struct open_file file = begin_reading(name);
+    unsigned char *bytes = file.number < 0 ? NULL : opened_bytes(file.number, kinds, most, len);
+    end_reading(file);
     return bytes;
 }

@@ -17,4 +17,31 @@ unsigned char *file_bytes(const char *name, enum kinds_of_files kinds, size_t mo
 /* Read an open file likewise, from its position on. */
 unsigned char *opened_bytes(int file, enum kinds_of_files kinds, size_t most, size_t *len);
 
+/* A file that is open for reading: its descriptor, -1 if it couldn't be opened, and whether the thread could be
+ * cancelled before. It can't be while it reads, since it would leave the descriptor and a block behind. */
+struct open_file {
+    int number, cancelled_how;
+};
+
+/* Begin to read the file `name`; errno says why that isn't possible. */
+struct open_file begin_reading(const char *name);
+
+/* Close the file, and keep errno. */
+void end_reading(struct open_file file);
+
+/* Is the open file a regular one, which can be read once more? */
+int is_regular(int file);
+
+/* Where the bytes of a file go, piece by piece: `begin` is told once how many there are, or 0 where the file doesn't
+ * say so. */
+struct taker {
+    void (*begin)(void *to, size_t len);
+    void (*add)(void *to, const unsigned char *piece, size_t len);
+    void *to;
+};
+
+/* Give the bytes of an open file, of any kind, to a taker. Return false and errno where opened_bytes would return NULL:
+ * what was begun then isn't whole. */
+int opened_pieces(int file, size_t most, size_t *len, struct taker taker);
+
 #endif

@@ -1,7 +1,8 @@
 /* Catalogues, the C part: memory, reference counts and files. The look-ups are in crates/kobdzila_c (exports.h). */
 #include "file_bytes.h"
 #include "held.h"
-#include "memory.h"
+
+#include <unistd.h>
 
 const char *kob_version(void) { return KOB_VERSION; }
 
@@ -12,6 +13,11 @@ static kob_catalogue *room_for_catalogue(kob_refusal *why) {
         return refuse(why, KOB_MEMORY, 0);
     atomic_init(&c->holders, 1);
     return c;
+}
+
+/* Say why a file wasn't read, by errno. */
+static kob_catalogue *unreadable(kob_refusal *why) {
+    return refuse(why, errno == ENOMEM ? KOB_MEMORY : KOB_UNREADABLE, 0);
 }
 
 /* Return the catalogue if it was opened. Otherwise free it, store the reason in *why and return NULL. */
@@ -25,30 +31,22 @@ static kob_catalogue *opened(kob_catalogue *c, kob_refusal *why) {
     return NULL;
 }
 
-/* Open an MO file in memory that nobody writes to meanwhile: it is read again after it was checked. The options that say
- * how to compile don't count. */
-static kob_catalogue *open_own_mo(const unsigned char *bytes, size_t len, unsigned options, kob_refusal *why) {
+/* Open the MO file that was handed over to `c`. The options that say how to compile don't count. */
+static kob_catalogue *open_handed_mo(kob_catalogue *c, unsigned options, kob_refusal *why) {
+    kobdzila_bytes_open_mo(options & KOB_STRICT, options & KOB_WITHOUT_INDEX, held_catalogue(c));
+    return opened(c, why);
+}
+
+/* What is checked is the library's own copy, which the program's other threads can't change. */
+kob_catalogue *kob_open_mo(const void *bytes, size_t len, kob_refusal *why) {
     if (len > MOST_MO)
         return refuse(why, KOB_MO_TOO_LARGE, 0);
     kob_catalogue *c = room_for_catalogue(why);
     if (!c)
         return NULL;
-    kobdzila_open_mo(bytes, len, options & KOB_STRICT, options & KOB_WITHOUT_INDEX, held_catalogue(c));
-    return opened(c, why);
-}
-
-/* What is checked is a copy, which the program's other threads can't change. */
-kob_catalogue *kob_open_mo(const void *bytes, size_t len, kob_refusal *why) {
-    if (len > MOST_MO)
-        return refuse(why, KOB_MO_TOO_LARGE, 0);
-    unsigned char *copy = kobdzila_malloc(len ? len : 1);
-    if (!copy)
-        return refuse(why, KOB_MEMORY, 0);
-    if (len)
-        memcpy(copy, bytes, len);
-    kob_catalogue *c = open_own_mo(copy, len, 0, why);
-    free_quietly(copy);
-    return c;
+    kobdzila_bytes_new(len, held_catalogue(c));
+    kobdzila_bytes_add(len ? bytes : "", len, held_catalogue(c));
+    return open_handed_mo(c, 0, why);
 }
 
 /* (The proved library compiles a copy of its own.) */
@@ -63,13 +61,87 @@ kob_catalogue *kob_open_po(const void *bytes, size_t len, unsigned options, kob_
     return opened(c, why);
 }
 
-kob_catalogue *kob_open_file(const char *name, enum kob_kind kind, unsigned options, kob_refusal *why) {
+/* Open the PO text that was handed over to `c`, or NULL and the fault WANTED_AGAIN. */
+static kob_catalogue *open_handed_po(kob_catalogue *c, unsigned options, kob_refusal *why) {
+    kobdzila_bytes_open_po(options & KOB_CHECKED, options & KOB_USE_FUZZY, options & KOB_STRICT,
+                           options & KOB_WITHOUT_INDEX, held_catalogue(c));
+    return opened(c, why);
+}
+
+/* A catalogue to which a file is handed over, and whether that has begun. */
+struct receiver {
+    struct held_catalogue *held;
+    int has_begun;
+};
+
+static void begin(void *to, size_t len) {
+    struct receiver *receiver = to;
+    kobdzila_bytes_new(len, receiver->held);
+    receiver->has_begun = 1;
+}
+
+static void add(void *to, const unsigned char *piece, size_t len) {
+    kobdzila_bytes_add(piece, len, ((struct receiver *)to)->held);
+}
+
+/* Hand a file over to a new catalogue, of which nothing is open yet. */
+static kob_catalogue *handed_file(int file, size_t most, enum kob_fault too_large, kob_refusal *why) {
+    kob_catalogue *c = room_for_catalogue(why);
+    if (!c)
+        return NULL;
     size_t len;
-    unsigned char *bytes = file_bytes(name, ALL_FILES, kind == KOB_PO ? MOST_PO : MOST_MO, &len);
+    struct receiver receiver = { held_catalogue(c), 0 };
+    int is_read = opened_pieces(file, most, &len, (struct taker){ begin, add, &receiver });
+    if (is_read && len <= most)
+        return c;
+    if (is_read)
+        refuse(why, too_large, 0);
+    else
+        unreadable(why);
+    if (receiver.has_begun)
+        kob_release(c);
+    else
+        free_quietly(c);
+    return NULL;
+}
+
+/* Open a PO file whose text is read as a whole first. */
+static kob_catalogue *open_read_po(int file, unsigned options, kob_refusal *why) {
+    size_t len;
+    unsigned char *bytes = opened_bytes(file, ALL_FILES, MOST_PO, &len);
     if (!bytes)
-        return refuse(why, errno == ENOMEM ? KOB_MEMORY : KOB_UNREADABLE, 0);
-    kob_catalogue *c = kind == KOB_PO ? kob_open_po(bytes, len, options, why) : open_own_mo(bytes, len, options, why);
+        return unreadable(why);
+    kob_catalogue *c = kob_open_po(bytes, len, options, why);
     free_quietly(bytes);
+    return c;
+}
+
+/* A text that the library compiles in its own memory is gone then. So it comes from a regular file, which is read once
+ * more if the text is in another charset, or has macros or the flag I. */
+static kob_catalogue *open_po_file(int file, unsigned options, kob_refusal *why) {
+    kob_refusal refusal;
+    if (!is_regular(file))
+        return open_read_po(file, options, why);
+    kob_catalogue *c = handed_file(file, MOST_PO, KOB_PO_TOO_LARGE, &refusal);
+    if (c)
+        c = open_handed_po(c, options, &refusal);
+    if (!c && (unsigned)refusal.fault == WANTED_AGAIN && lseek(file, 0, SEEK_SET) == 0)
+        return open_read_po(file, options, why);
+    refuse(why, refusal.fault, refusal.line);
+    return c;
+}
+
+static kob_catalogue *open_mo_file(int file, unsigned options, kob_refusal *why) {
+    kob_catalogue *c = handed_file(file, MOST_MO, KOB_MO_TOO_LARGE, why);
+    return c ? open_handed_mo(c, options, why) : NULL;
+}
+
+kob_catalogue *kob_open_file(const char *name, enum kob_kind kind, unsigned options, kob_refusal *why) {
+    struct open_file file = begin_reading(name);
+    kob_catalogue *c = file.number < 0 ? unreadable(why)
+                       : kind == KOB_PO ? open_po_file(file.number, options, why)
+                                        : open_mo_file(file.number, options, why);
+    end_reading(file);
     return c;
 }
 

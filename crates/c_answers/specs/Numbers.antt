@@ -39,6 +39,10 @@ busy_fault = 203
 abbrev pub spent_fault : ℕ
 spent_fault = 204
 
+-- C's functions read the text once more
+abbrev pub wanted_again_fault : ℕ
+wanted_again_fault = 205
+
 -- ---- which number of a value is wanted: of a catalogue
 
 abbrev pub the_fault : ℕ

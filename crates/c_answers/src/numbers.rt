@@ -41,6 +41,10 @@ pub const BUSY: u32 = 203;
 
 pub const VERSIONS_SPENT: u32 = 204;
 
+// A PO text whose memory is gone may be opened as something else than UTF-8. It isn't in `kobdzila.h`: C's functions
+// read the text once more.
+pub const WANTED_AGAIN: u32 = 205;
+
 // Which number of a value is wanted: of a catalogue,
 pub const FAULT: u32 = 0;
 

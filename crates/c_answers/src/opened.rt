@@ -12,6 +12,7 @@ use std::sync::Arc;
 pub struct Opened {
     pub catalogue: Option<Arc<Catalogue>>,
     /// The MO file, where it isn't that of the catalogue's map: that of a PO text with system-dependent messages.
+    /// Without a catalogue, the bytes that C has handed over so far.
     pub file: Option<Vec<u8>>,
     /// The number of the fault (`numbers`); `NO_FAULT` if there is a catalogue.
     pub fault: u32,

@@ -16,16 +16,17 @@ use Rattle.mo_charsets.specs.declared.fault.RecodedFault.TheVariants as recoded
 use Rattle.catalogue.specs.Meaning.{Means, Refuses, rank}
 use Rattle.catalogue.specs.declared.compiler.Compiled.{Compiled}
 use Rattle.catalogue.specs.declared.compiler.Stats.{Stats}
-use Rattle.any_charset.specs.Recoding.{MeansAny, RefusesAny}
+use Rattle.any_charset.specs.Recoding.{IsForCharset, MeansAny, RefusesAny}
 use Rattle.any_charset.specs.declared.fault.TextFault.{TextFault}
 use Rattle.any_charset.specs.declared.fault.TextFault.TheVariants.{Load, NoCharacter}
 use Rattle.po_checks.specs.Refusal.{out_of_memory}
+use Rattle.po_checks.specs.declared.fault.LoadFault.{LoadFault}
 use Rattle.po_checks.specs.declared.fault.LoadKind.{LoadKind}
 use Rattle.po_checks.specs.declared.fault.LoadKind.TheVariants.{Memory, SystemDependent}
 use Rattle.po_checks.specs.declared.options.Options.{Options}
 use Rattle.c_answers.specs.declared.opened.Opened.{Opened}
 use Rattle.c_answers.specs.Numbers.{no_fault, memory_fault, tables_fault, mo_no_character_fault, po_faults}
-use Rattle.c_answers.specs.Numbers.{no_character_fault, not_read_back_fault}
+use Rattle.c_answers.specs.Numbers.{no_character_fault, not_read_back_fault, wanted_again_fault}
 use Rattle.dependent_files.specs.DigitsFlag.{SomeHasFlag}
 use Rattle.dependent_files.specs.TextFiles.{HasFileAny, HasNoFileAny}
 use Rattle.dependent_files.specs.declared.compiler.DependentFile.{DependentFile}
@@ -203,3 +204,20 @@ abbrev pub IsOpenedPo : List ℕ → Options → Bool → Opened → Type 0
 IsOpenedPo text options is_strict c = IsOpenedAs (MeansMap text options is_strict) c
     ⊎ (HasFlag text options is_strict × IsOpenedFile text options c)
     ⊎ (fault : TextFault) × RefusesText text options is_strict fault × IsTold text options is_strict fault c
+
+-- ---- a text whose memory the library owns
+
+-- a text that is refused for this as UTF-8 may be opened all the same: in another charset, or with macros
+abbrev pub IsForMore : LoadKind → Type 0
+IsForMore kind = IsForCharset kind ⊎ (kind ≡ SystemDependent)
+
+-- as UTF-8 the text is refused, and may be opened all the same; or it compiles, and a translation has the flag `I`
+abbrev pub MayBeMore : List ℕ → Options → Type 0
+MayBeMore text options =
+    ((fault : LoadFault) × Refuses text options fault.kind fault.line × IsForMore fault.kind)
+    ⊎ (compiled : Compiled) × Means text options compiled × SomeHasFlag compiled.catalogue
+
+-- what a text is opened as; or it is wanted again, since it may be opened as more than UTF-8
+abbrev pub IsOpenedOwned : List ℕ → Options → Bool → Opened → Type 0
+IsOpenedOwned text options is_strict c = IsOpenedPo text options is_strict c
+    ⊎ (is_strict ≡ false) × MayBeMore text options × IsRefused c wanted_again_fault 0

@@ -2,6 +2,8 @@
 //! decodes.
 #![tactic(auto)]
 
+mod handing;
 mod opening;
 
-pub use opening::{copied, number_and_line, open_mo, open_po, options_of};
+pub use handing::{add_piece, new_bytes, open_handed_mo, open_handed_po};
+pub use opening::{copied, number_and_line, open_mo, open_owned_po, open_po, options_of};

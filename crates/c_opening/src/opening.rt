@@ -1,5 +1,5 @@
 //! Opening bytes: the catalogue of an MO file or of a PO text, or the number and the line of why it is refused.
-ghost use Rattle.std.specs.Prelude.{◌≡◌, ◌⊎◌, ◌↔◌, IfOk, IfErr, IsTrue, None, nat_lt, option_map};
+ghost use Rattle.std.specs.Prelude.{◌≡◌, ◌⊎◌, ◌↔◌, ℕ, List, false, IfOk, IfErr, IsTrue, None, nat_lt, option_map};
 ghost use Rattle.std.specs.Arc.{arc_value};
 ghost use Rattle.catalogue.specs.Meaning.{Means, Refuses};
 ghost use Rattle.po_checks.specs.Refusal.{out_of_memory};
@@ -7,7 +7,8 @@ ghost use Rattle.c_opening.specs.Opening.{IsOpenedMo, IsOpenedPo, IsOpenedMap, I
 ghost use Rattle.c_opening.specs.Opening.{MeansText, RefusesText, line_of, options_of, text_fault_number};
 ghost use Rattle.c_opening.specs.Opening.{MeansMo, RefusesMo, dependent_number, file_fault_number, mo_fault_number};
 ghost use Rattle.c_opening.specs.Opening.{IsOpenedFile, IsSystemDependent, IsTold, file_line, text_file_number};
-ghost use Rattle.c_opening.specs.Opening.{CountsFlag};
+ghost use Rattle.mo_file.specs.Owned.{IsUnread};
+ghost use Rattle.c_opening.specs.Opening.{CountsFlag, IsForMore, IsOpenedOwned};
 ghost use Rattle.dependent_files.specs.TextFiles.{HasFileAny, HasNoFileAny};
 
 use any_charset::{TextFault, compile_recoded, is_for_charset};
@@ -15,20 +16,20 @@ use c_answers::Opened;
 use c_answers::numbers::{
     DEPENDENT_DESCRIPTOR, DEPENDENT_OPEN_TEXT, DEPENDENT_SEGMENT, DEPENDENT_SEGMENT_NUMBER,
     DEPENDENT_SWOLLEN, DEPENDENT_TABLES, DEPENDENT_TEXT, MEMORY, MO_NO_CHARACTER, NO_CHARACTER,
-    NO_FAULT, NOT_READ_BACK, PO_FAULTS, PO_MEMORY,
+    NO_FAULT, NOT_READ_BACK, PO_FAULTS, PO_MEMORY, WANTED_AGAIN,
 };
 use catalogue::{Catalogue, Compiled, LoadFault, LoadKind, Options, Stats, compile_owned};
 use dependent_files::{DependentFile, FileFault, compile_file, has_digits_flag};
 use live_loads::{mo_number, po_number};
 use mo_charsets::{RecodedFault, read_any_charset};
-use mo_file::{MoFault, read_mo};
+use mo_file::{MoFault, Unread, read_owned_mo};
 use mo_revisions::AnyMoFault;
 use mo_segments::DependentFault;
 use std::alloc::{AllocError, Global};
 use std::sync::Arc;
 
 /// The counts of what isn't a PO text.
-const NO_STATS: Stats = Stats {
+pub(crate) const NO_STATS: Stats = Stats {
     translated: 0,
     fuzzy: 0,
     untranslated: 0,
@@ -45,7 +46,7 @@ fn fault_number(kind: LoadKind) -> u32
 }
 
 /// No catalogue, for this reason.
-fn refused(fault: u32, line: u32) -> Opened
+pub(crate) fn refused(fault: u32, line: u32) -> Opened
     ensures { IsRefused result fault line }
 {
     Opened {
@@ -129,24 +130,47 @@ fn file_fault_number(fault: RecodedFault) -> u32
     }
 }
 
-/// Reads an MO file of any revision in any charset, or if `is_strict` of revision 0.0 in UTF-8 alone.
-fn read_file(alloc: Global, bytes: &[u8], is_strict: bool) -> Result<Catalogue, RecodedFault>
-    ensures ok { IfOk result (MeansMo bytes.now is_strict) }
-    ensures err { IfErr result (RefusesMo bytes.now is_strict) }
+/// Whether a file wasn't read for want of memory.
+fn is_memory(fault: MoFault) -> bool
+    ensures { IsTrue result ↔ (fault ≡ MoFault.Memory) }
 {
-    if !is_strict {
-        return read_any_charset(alloc, bytes);
+    matches!(fault, MoFault::Memory)
+}
+
+/// Reads a file that is refused, and was given back: unless `is_strict`, as one of any revision in any charset.
+fn read_given_back(
+    alloc: Global,
+    unread: Unread,
+    is_strict: bool,
+) -> Result<Catalogue, RecodedFault>
+    ensures ok { IfOk result (λ m. (bytes : List ℕ) → IsUnread bytes unread → MeansMo bytes is_strict m) }
+    ensures err { IfErr result (λ fault. (bytes : List ℕ) → IsUnread bytes unread → RefusesMo bytes is_strict fault) }
+{
+    if is_strict {
+        return Err(RecodedFault::from(unread.fault));
     }
-    match read_mo(alloc, bytes) {
+    if is_memory(unread.fault) {
+        return Err(RecodedFault::from(AllocError));
+    }
+    read_any_charset(alloc, &unread.bytes)
+}
+
+/// Reads an MO file of any revision in any charset, or if `is_strict` of revision 0.0 in UTF-8 alone. One in the layout
+/// of `mo_file::write_mo` isn't copied.
+fn read_file(alloc: Global, bytes: Vec<u8>, is_strict: bool) -> Result<Catalogue, RecodedFault>
+    ensures ok { IfOk result (MeansMo bytes.items is_strict) }
+    ensures err { IfErr result (RefusesMo bytes.items is_strict) }
+{
+    match read_owned_mo(alloc, bytes) {
         Ok(catalogue) => Ok(catalogue),
-        Err(fault) => Err(RecodedFault::from(fault)),
+        Err(unread) => read_given_back(alloc, unread, is_strict),
     }
 }
 
 /// The catalogue of an MO file, or the first reason why it is refused. An option is on if its number isn't 0; with
 /// `without_index` the catalogue gets no index, and answers as with one.
-pub fn open_mo(alloc: Global, bytes: &[u8], strict: u32, without_index: u32) -> Opened
-    ensures { IsOpenedMo bytes.now (nat_lt 0 strict) result }
+pub fn open_mo(alloc: Global, bytes: Vec<u8>, strict: u32, without_index: u32) -> Opened
+    ensures { IsOpenedMo bytes.items (nat_lt 0 strict) result }
 {
     match read_file(alloc, bytes, strict > 0) {
         Ok(catalogue) => kept(alloc, catalogue, NO_STATS, None, without_index > 0),
@@ -284,6 +308,19 @@ fn counts_flag(alloc: Global, catalogue: &Catalogue, is_strict: bool) -> Result<
     has_digits_flag(alloc, catalogue)
 }
 
+/// A compiled text as C holds it, or out of memory.
+fn kept_compiled(alloc: Global, compiled: Compiled, without_index: bool) -> Opened
+    ensures { IsOpenedMap compiled.catalogue compiled.stats None result }
+{
+    kept(
+        alloc,
+        compiled.catalogue,
+        compiled.stats,
+        None,
+        without_index,
+    )
+}
+
 /// What is opened of a text that compiles to this: its map, or if a flag `I` counts, the text with its flags.
 fn open_compiled(
     alloc: Global,
@@ -297,14 +334,20 @@ fn open_compiled(
     ensures { IsOpenedPo bytes.now options is_strict result }
 {
     match counts_flag(alloc, &compiled.catalogue, is_strict) {
-        Ok(false) => kept(
-            alloc,
-            compiled.catalogue,
-            compiled.stats,
-            None,
-            without_index,
-        ),
+        Ok(false) => kept_compiled(alloc, compiled, without_index),
         Ok(true) => open_macros(alloc, bytes, options, without_index),
+        Err(_) => refused(MEMORY, 0),
+    }
+}
+
+/// What is opened of a text that compiles to this, or `WANTED_AGAIN` if a flag `I` counts.
+fn open_unflagged(alloc: Global, compiled: Compiled, is_strict: bool, without_index: bool) -> Opened
+    ensures { (text : List ℕ) (options : Options) → Means text options compiled
+        → IsOpenedOwned text options is_strict result }
+{
+    match counts_flag(alloc, &compiled.catalogue, is_strict) {
+        Ok(false) => kept_compiled(alloc, compiled, without_index),
+        Ok(true) => refused(WANTED_AGAIN, 0),
         Err(_) => refused(MEMORY, 0),
     }
 }
@@ -339,5 +382,45 @@ pub fn open_po(
     match compile_text(alloc, bytes, options, is_strict) {
         Ok(compiled) => open_compiled(alloc, bytes, options, is_strict, without_index, compiled),
         Err(fault) => open_refused(alloc, bytes, options, is_strict, without_index, fault),
+    }
+}
+
+/// Whether a text that is refused as UTF-8 for this may be opened all the same: in another charset, or with macros.
+fn is_wanted_again(kind: LoadKind, is_strict: bool) -> bool
+    ensures { IsTrue result ↔ ((is_strict ≡ false) × IsForMore kind) }
+{
+    !is_strict && (is_for_charset(kind) || matches!(kind, LoadKind::SystemDependent))
+}
+
+/// No catalogue, for the fault of a PO text or because the text is wanted again.
+fn refused_owned(fault: LoadFault, is_strict: bool) -> Opened
+    ensures { (text : List ℕ) (options : Options) → (fault ≡ out_of_memory) ⊎ Refuses text options fault.kind fault.line
+        → IsOpenedOwned text options is_strict result }
+{
+    if is_wanted_again(fault.kind, is_strict) {
+        return refused(WANTED_AGAIN, 0);
+    }
+    refused(fault_number(fault.kind), fault.line)
+}
+
+/// The catalogue of a PO text as `open_po` opens it, from memory that the library owns and writes the MO file over.
+///
+/// The fault is `WANTED_AGAIN` if the text may be opened in another charset, or with macros or the flag `I`. `open_po`
+/// then opens it, or says why it is refused.
+pub fn open_owned_po(
+    alloc: Global,
+    text: Vec<u8>,
+    checked: u32,
+    use_fuzzy: u32,
+    strict: u32,
+    without_index: u32,
+) -> Opened
+    ensures { IsOpenedOwned text.items (options_of checked use_fuzzy) (nat_lt 0 strict) result }
+{
+    let options = options_of(checked, use_fuzzy);
+    let is_strict = strict > 0;
+    match compile_owned(alloc, text, options) {
+        Ok(compiled) => open_unflagged(alloc, compiled, is_strict, without_index > 0),
+        Err(fault) => refused_owned(fault, is_strict),
     }
 }

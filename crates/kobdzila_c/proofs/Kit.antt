@@ -16,7 +16,7 @@ pub use denote.Ref.{Bor}
 pub use denote.RattleType.{owns}
 pub use denote.Signature.{types_at}
 pub use denote.Slice.{shr_slice_vals, shr_slice_Lawful}
-pub use denote.Plain.{uint_Lawful, Nothing-Lawful}
+pub use denote.Plain.{uint_Lawful, uint_vals, Nothing-Lawful}
 pub use denote.Steps.{nothing, heard}
 pub use denote.Triple.Entry.{alive}
 pub use denote.Triple.Spec.{triple_of}

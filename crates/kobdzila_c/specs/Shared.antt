@@ -27,7 +27,7 @@ use Rattle.live_set.specs.contracts.places.Places.{the_row as places_row}
 use Rattle.c_answers.specs.Answering.{IsClosedAnswer, Question, map_of}
 use Rattle.c_answers.specs.Listing.{text}
 use Rattle.c_sets.specs.Making.{IsSetAnswer}
-use Rattle.c_opening.specs.Opening.{IsOpenedMo, IsOpenedPo}
+use Rattle.c_opening.specs.Opening.{IsOpenedPo}
 use Rattle.c_sets.specs.NamedPlaces.{IsSetAnswerAt}
 use Rattle.c_outputs.specs.Outputs.{text_in}
 
@@ -35,14 +35,13 @@ use Rattle.c_outputs.specs.Outputs.{text_in}
 abbrev pub holds : Ptr → Opened → Fml
 holds p c = lies_at the_row full_share p c
 
--- at out is the catalogue of an MO file, or why it is refused
-abbrev pub mo_opened_at : Ptr → List ℕ → Bool → Fml
-mo_opened_at out bytes is_strict = fex Opened (λ c. fex (IsOpenedMo bytes is_strict c) (λ _. holds out c))
+-- at p is something opened, or to be opened, with this property
+abbrev pub opened_at : Ptr → (Opened → Type 0) → Fml
+opened_at p Is = fex Opened (λ c. fex (Is c) (λ _. holds p c))
 
 -- at out is the catalogue of a PO text, or why it is refused
 abbrev pub po_opened_at : Ptr → List ℕ → Options → Bool → Fml
-po_opened_at out bytes options is_strict =
-    fex Opened (λ c. fex (IsOpenedPo bytes options is_strict c) (λ _. holds out c))
+po_opened_at out bytes options is_strict = opened_at out (IsOpenedPo bytes options is_strict)
 
 -- the right to look up: c is shared at p for the lifetime κ, and a share q of κ's token shows that κ lasts
 abbrev pub reads : Lft → Share → Ptr → Opened → Fml

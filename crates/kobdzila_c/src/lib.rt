@@ -16,6 +16,7 @@ ghost use Rattle.c_answers.specs.Answering.{question};
 ghost use Rattle.c_answers.specs.Listing.{number};
 ghost use Rattle.c_answers.specs.contracts.opened.Opened.{the_row};
 ghost use Rattle.c_answers.specs.declared.opened.Opened.{Opened as Held};
+ghost use Rattle.c_opening.specs.Handing.{IsExtended, IsHanded, IsOpenedHandedMo, IsOpenedHandedPo};
 ghost use Rattle.c_opening.specs.Opening.{options_of};
 ghost use Rattle.c_outputs.specs.Outputs.{IsFormatFaults, IsPoText, IsRecodedText, output_number};
 ghost use Rattle.c_outputs.specs.contracts.outputs.HeldOutput.{the_row as output_row};
@@ -32,7 +33,7 @@ ghost use Rattle.c_stores.specs.contracts.stores.HeldNotice.{the_row as notice_r
 ghost use Rattle.c_stores.specs.declared.stores.HeldNotice.{HeldNotice as ANotice};
 ghost use Rattle.c_stores.specs.contracts.stores.HeldEntrance.{the_row as entrance_row};
 ghost use Rattle.c_stores.specs.declared.stores.HeldEntrance.{HeldEntrance as AnEntrance};
-ghost use Rattle.kobdzila_c.specs.Shared.{Text, answer_at, holds, string_at, mo_opened_at, po_opened_at, reads};
+ghost use Rattle.kobdzila_c.specs.Shared.{Text, answer_at, holds, opened_at, string_at, po_opened_at, reads};
 ghost use Rattle.kobdzila_c.specs.Shared.{holds_set, places_at, reads_set, set_answered, set_answered_at, set_at};
 ghost use Rattle.kobdzila_c.specs.Shared.{holds_store, reads_store, store_at, holds_notice, notice_at, reads_notice};
 ghost use Rattle.kobdzila_c.specs.Shared.{entrance_at, holds_entrance, reads_entrance, holds_output, output_at};
@@ -59,23 +60,6 @@ pub extern "C" fn kobdzila_size() -> usize
     c_answers::opened_size()
 }
 
-/// Opens an MO file, and writes its catalogue, or why it is refused, to `out`. An option is on if its argument isn't 0.
-/// With `strict` its revision must be 0.0; otherwise it may be any that `mo_revisions` reads. With `without_index` the
-/// catalogue gets no index.
-#[unsafe(no_mangle)]
-pub unsafe extern "C" fn kobdzila_open_mo(
-    alloc: Global,
-    bytes: &[u8],
-    strict: u32,
-    without_index: u32,
-    out: *mut Opaque,
-)
-    requires* { sem 𝓛 (room_at the_row out) }
-    ensures* { sem 𝓛 (mo_opened_at out bytes.now (nat_lt 0 strict)) }
-{
-    (out as *mut Opened).write(c_opening::open_mo(alloc, bytes, strict, without_index));
-}
-
 /// Compiles a PO text, and writes its catalogue, or why it is refused, to `out`. An option is on if its argument isn't
 /// 0. With `strict` the text must be UTF-8, and no format may name a macro; otherwise it may be in any charset of
 /// `charsets`, and have macros. With `without_index` the catalogue gets no index.
@@ -99,6 +83,72 @@ pub unsafe extern "C" fn kobdzila_open_po(
         use_fuzzy,
         strict,
         without_index,
+    ));
+}
+
+/// Writes to `out` that no bytes were handed over yet, with room for `len`, or that memory ran out.
+#[unsafe(no_mangle)]
+pub unsafe extern "C" fn kobdzila_bytes_new(alloc: Global, len: u64, out: *mut Opaque)
+    requires* { sem 𝓛 (room_at the_row out) }
+    ensures* { sem 𝓛 (opened_at out (IsHanded [])) }
+{
+    (out as *mut Opened).write(c_opening::new_bytes(alloc, len));
+}
+
+/// Adds a piece to the bytes that were handed over to `held`.
+#[unsafe(no_mangle)]
+pub unsafe extern "C" fn kobdzila_bytes_add(piece: &[u8], held: *mut Opaque)
+    ghost value: { Held }
+    requires* { sem 𝓛 (holds held value) }
+    ensures* { sem 𝓛 (opened_at held (IsExtended value piece.now)) }
+{
+    (held as *mut Opened).write(c_opening::add_piece(piece, (held as *mut Opened).read()));
+}
+
+/// Opens the MO file that was handed over to `held`, in its memory. An option is on if its argument isn't 0. With
+/// `strict` its revision must be 0.0; otherwise it may be any that `mo_revisions` reads. With `without_index` the
+/// catalogue gets no index.
+#[unsafe(no_mangle)]
+pub unsafe extern "C" fn kobdzila_bytes_open_mo(
+    alloc: Global,
+    strict: u32,
+    without_index: u32,
+    held: *mut Opaque,
+)
+    ghost value: { Held }
+    requires* { sem 𝓛 (holds held value) }
+    ensures* { sem 𝓛 (opened_at held (IsOpenedHandedMo value (nat_lt 0 strict))) }
+{
+    (held as *mut Opened).write(c_opening::open_handed_mo(
+        alloc,
+        strict,
+        without_index,
+        (held as *mut Opened).read(),
+    ));
+}
+
+/// Opens the PO text that was handed over to `held` as `kobdzila_open_po` does, in its memory. The fault is
+/// `WANTED_AGAIN` where that function may open the text in another charset, or with macros or the flag `I`.
+#[unsafe(no_mangle)]
+pub unsafe extern "C" fn kobdzila_bytes_open_po(
+    alloc: Global,
+    checked: u32,
+    use_fuzzy: u32,
+    strict: u32,
+    without_index: u32,
+    held: *mut Opaque,
+)
+    ghost value: { Held }
+    requires* { sem 𝓛 (holds held value) }
+    ensures* { sem 𝓛 (opened_at held (IsOpenedHandedPo value (options_of checked use_fuzzy) (nat_lt 0 strict))) }
+{
+    (held as *mut Opened).write(c_opening::open_handed_po(
+        alloc,
+        checked,
+        use_fuzzy,
+        strict,
+        without_index,
+        (held as *mut Opened).read(),
     ));
 }
 
