@@ -255,8 +255,8 @@ static char *plain_path(const char *place) {
 static void look_at_place(struct search *search, const char *place) {
     struct stat about;
     char *path = plain_path(place);
-    if (stat(path, &about) < 0) {
-        cannot(search, "read", path, errno);
+    if (stat(place, &about) < 0) { /* (a slash behind the name of a file counts here) */
+        cannot(search, "read", place, errno);
     } else if (S_ISDIR(about.st_mode)) {
         look_into(search, AT_FDCWD, path, path);
     } else if (S_ISREG(about.st_mode)) {

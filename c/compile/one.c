@@ -139,12 +139,32 @@ static bool refuse_formats(const struct run *run, struct catalogue *it, struct t
     return true;
 }
 
-/* Compile with GNU msgfmt a text of which a C format has a macro left. False if none has, or if GNU msgfmt refuses it. */
+/* Leave a text with a C format that only GNU msgfmt can check to it. False if there is none, or no GNU msgfmt. */
+static bool leaves_formats_to_gnu(const struct run *run, struct catalogue *it, struct text_bytes text) {
+    struct part part = {text.at, text.at + text.len};
+    if (!run->options.checks || run->options.without_gnu || stopped_by)
+        return false;
+    if (!may_have_odd_directive(part) || !scan(run, text).has_odd_format) /* (few texts are scanned) */
+        return false;
+    it->outcome = IS_REFUSED;
+    hand_to_gnu(run, it, true);
+    if (!it->by_gnu) {
+        it->outcome = WAITING;
+        it->lacks_gnu = false;
+    }
+    return it->by_gnu;
+}
+
+/* Compile with GNU msgfmt a text of which a C format has a macro left, or which has macros and flags that GNU msgfmt
+ * reads otherwise. False if there is none of that, or if GNU msgfmt refuses it. */
 static bool compiles_macros_by_gnu(const struct run *run, struct catalogue *it, const kob_catalogue *made,
                                    struct text_bytes text) {
     enum { MINOR_REVISION = 4 }; /* the place of its lowest byte in an MO file */
     bool is_dependent = kob_mo_file(made).at[MINOR_REVISION];
-    if (run->options.without_gnu || stopped_by || !is_dependent || left_macros(made) <= scan(run, text).plain_macros)
+    if (run->options.without_gnu || stopped_by || !is_dependent)
+        return false;
+    struct needs needs = scan(run, text);
+    if (!needs.flags_differ && left_macros(made) <= needs.plain_macros)
         return false;
     hand_to_gnu(run, it, false);
     return it->outcome == IS_COMPILED || it->outcome == IS_UNWRITTEN;
@@ -159,11 +179,8 @@ static void compile_text(const struct run *run, struct catalogue *it, struct tex
         end_refused(run, it, why, text);
         return;
     }
-    if (refuse_formats(run, it, text)) {
-        kob_release(made);
-        return;
-    }
-    if (compiles_macros_by_gnu(run, it, made, text)) {
+    if (leaves_formats_to_gnu(run, it, text) || refuse_formats(run, it, text) ||
+        compiles_macros_by_gnu(run, it, made, text)) {
         kob_release(made);
         return;
     }

@@ -93,7 +93,7 @@ static int dress(int file, const struct stat *old) {
     if (!is_same && fchown(file, old->st_uid, old->st_gid) < 0) {
         mode &= 0777;
         if (fchown(file, (uid_t)-1, old->st_gid) < 0)
-            mode &= 0707;
+            mode &= 0707 | (mode & 07) << 3; /* (the group may do what everybody may) */
     }
     return set_mode(file, mode);
 }

@@ -161,6 +161,8 @@ void print_summary(const struct run *run, FILE *to) {
     static const enum outcome order[] = {IS_COMPILED, IS_CURRENT, IS_REFUSED, IS_UNREAD, IS_UNWRITTEN, WAITING};
     size_t counts[IS_UNWRITTEN + 1] = {0};
     const char *before = "";
+    if (run->catalogues.count == 0)
+        return;
     for (size_t place = 0; place < run->catalogues.count; place++)
         counts[run->catalogues.at[place].outcome]++;
     for (size_t place = 0; place < sizeof order / sizeof *order; place++)

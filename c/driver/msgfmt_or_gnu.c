@@ -87,6 +87,23 @@ static const char *own_lines(const struct request *request) {
     return request->wants_version ? version_line : help_lines;
 }
 
+/* Run GNU msgfmt about itself, and print its lines and the driver's own at once: the reader may go after the first. */
+static struct ending tell_of_both(const struct run *run, char **words) {
+    const char *own = own_lines(run->request);
+    struct streams streams = run->streams;
+    streams.output = unnamed_file();
+    if (streams.output < 0)
+        stop("cannot keep the output: ", strerror(errno));
+    struct ending ending = run_program(run->gnu, words, streams);
+    size_t len = 0;
+    bool done = ending.failure || ending.status || write_all(streams.output, own, strlen(own));
+    char *lines = lseek(streams.output, 0, SEEK_SET) < 0 ? NULL : read_all(streams.output, &len);
+    if ((!done || !lines || !write_all(STDOUT_FILENO, lines, len)) && ending.status == 0)
+        ending.status = 1;
+    free(lines);
+    return ending;
+}
+
 /* Hand the run to GNU msgfmt, whose exit status becomes the driver's. */
 _Noreturn static void end_by_gnu(struct run *run, const char *why) {
     const char *log = getenv("MSGFMT_OR_GNU_LOG");
@@ -99,15 +116,13 @@ _Noreturn static void end_by_gnu(struct run *run, const char *why) {
         tell("msgfmt-or-gnu: cannot run %s: %s", run->gnu, strerror(failure));
         _exit(1);
     }
-    struct ending ending = run_program(run->gnu, words, run->streams);
+    struct ending ending = asks ? tell_of_both(run, words) : run_program(run->gnu, words, run->streams);
     if (ending.failure) {
         tell("msgfmt-or-gnu: cannot run %s: %s", run->gnu, strerror(ending.failure));
         ending.status = 1;
     }
     if (!asks)
         log_files(run->request, "GNU", ending.status, why, milliseconds_of(run));
-    else if (ending.status == 0 && !write_all(STDOUT_FILENO, own_lines(run->request), strlen(own_lines(run->request))))
-        ending.status = 1;
     end_as(ending);
 }
 
@@ -115,10 +130,12 @@ _Noreturn static void end_by_gnu(struct run *run, const char *why) {
 _Noreturn static void end_without_gnu(struct run *run) {
     const struct request *request = run->request;
     if (is_about_itself(request)) {
-        const char *lines = own_lines(request) + (request->wants_version ? 0 : 1);
-        size_t first = request->wants_version ? strlen(release_line) : 0;
-        bool done = write_all(STDOUT_FILENO, release_line, first) && write_all(STDOUT_FILENO, lines, strlen(lines));
-        _exit(done ? 0 : 1);
+        char *lines = NULL;
+        int len = request->wants_version ? asprintf(&lines, "%s%s", release_line, version_line)
+                                         : asprintf(&lines, "%s", help_lines + 1);
+        if (len < 0)
+            stop_for_memory();
+        _exit(write_all(STDOUT_FILENO, lines, (size_t)len) ? 0 : 1);
     }
     tell("msgfmt-or-gnu: %s: this needs GNU msgfmt, and there is none on the PATH%s", request->why, in_gettext);
     char why[WHY_SIZE + sizeof "; no GNU msgfmt"];
@@ -185,12 +202,14 @@ static bool keep_input(struct run *run) {
         return true;
     }
     run->streams.extra = run->text.kept;
-    run->streams.extra_as = number > STDERR_FILENO ? number : 9;
-    if (number <= STDERR_FILENO) {
+    run->streams.extra_as = number;
+    if (number <= STDERR_FILENO) { /* (a number that nobody has, kept at once: the caller's descriptors stay) */
+        run->streams.extra = run->streams.extra_as = fcntl(run->text.kept, F_DUPFD, 9);
         free(run->input);
-        run->input = strdup("/dev/fd/9");
+        if (run->streams.extra < 0 || asprintf(&run->input, "/dev/fd/%d", run->streams.extra_as) < 0)
+            stop_for_memory();
     }
-    return run->input != NULL;
+    return true;
 }
 
 /* Read the PO text. Returns 0, or the errno of why it can't be read. */
@@ -208,8 +227,12 @@ static int read_text(struct run *run, char *why) {
         close(file);
         return 0;
     }
-    run->text.bytes = read_all(file, &run->text.len);
+    run->text.bytes = read_most(file, TEXT_LIMIT, &run->text.len);
     int cause = errno;
+    if (run->text.bytes && run->text.len > TEXT_LIMIT) {
+        tell("msgfmt-or-gnu: %s: more than 64 MiB: write it to a file, and name that", name);
+        _exit(1);
+    }
     if (!is_stream)
         close(file);
     if (!run->text.bytes)
@@ -388,6 +411,13 @@ static char *refusal_of(const struct run *run, const struct answer *answer) {
     return NULL;
 }
 
+/* Return the end of a message of Kobdzila's msgfmt. The file's name may have line ends of its own. */
+static char *end_of_message(const struct run *run, char *message) {
+    size_t len = strlen(run->input_name);
+    bool is_named = !strncmp(message, run->input_name, len) && message[len] == ':';
+    return strchrnul(message + (is_named ? len : 0), '\n');
+}
+
 /* Print what Kobdzila's msgfmt printed: warnings only if asked for, and statistics the way GNU msgfmt prints them. */
 static bool pass_on(const struct run *run, const struct answer *answer) {
     const struct request *request = run->request;
@@ -397,7 +427,7 @@ static bool pass_on(const struct run *run, const struct answer *answer) {
     if (!lines)
         stop_for_memory();
     for (char *line = answer->said, *end; *line; line = *end ? end + 1 : end) {
-        end = strchrnul(line, '\n');
+        end = end_of_message(run, line);
         bool is_last = !*end || !end[1];
         bool is_warning = memmem(line, (size_t)(end - line), ": warning: header field '", 25);
         if (is_warning ? !request->checks_header : has_compiled && is_last && !wants_statistics(request))

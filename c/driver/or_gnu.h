@@ -68,6 +68,7 @@ struct needs {
     bool is_dependent;       /* an entry may have system-dependent strings, which libkobdzila compiles */
     size_t plain_macros;     /* how many entries have a macro without being flagged c-format */
     const char *format;      /* the flag of formats that are to be checked by libkobdzila, or NULL */
+    bool has_odd_format;     /* a C format that is to be checked has a directive that only GNU msgfmt reads */
     bool flags_differ;       /* GNU msgfmt reads the flags of an entry otherwise, and that matters */
 };
 
@@ -141,6 +142,9 @@ int raised(int descriptor);
 int unnamed_file(void);
 /* Read everything from a descriptor, and add a NUL; NULL and errno on failure. */
 char *read_all(int descriptor, size_t *len);
+
+/* Like read_all, but stop once there are more than `most` bytes. */
+char *read_most(int descriptor, size_t most, size_t *len);
 bool write_all(int descriptor, const char *bytes, size_t len);
 
 /* Append a line for each PO file to the log, if there is one. */

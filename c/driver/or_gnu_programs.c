@@ -52,7 +52,9 @@ int unnamed_file(void) {
     return raised(made);
 }
 
-char *read_all(int descriptor, size_t *len) {
+char *read_all(int descriptor, size_t *len) { return read_most(descriptor, SIZE_MAX, len); }
+
+char *read_most(int descriptor, size_t most, size_t *len) {
     struct stat about;
     size_t room = 1 << 16, have = 0;
     if (fstat(descriptor, &about) == 0 && S_ISREG(about.st_mode))
@@ -65,7 +67,7 @@ char *read_all(int descriptor, size_t *len) {
         if (more < 0)
             break;
         have += (size_t)more;
-        if (more == 0) {
+        if (more == 0 || have > most) {
             bytes[have] = '\0';
             *len = have;
             return bytes;

@@ -30,6 +30,11 @@ static void needs_gnu_for_flags(struct scan *scan) {
     needs_gnu_for(scan, "flags read otherwise by GNU");
 }
 
+static void needs_gnu_for_c_format(struct scan *scan) {
+    scan->needs.has_odd_format = true;
+    needs_gnu_for(scan, "c-format not read here");
+}
+
 /* ---- the header */
 
 static bool is_name(struct part part, const char *name) {
@@ -99,6 +104,8 @@ static void look_at_kept(struct scan *scan, const struct entry *entry) {
         needs_gnu_for(scan, "objc-format");
     if (checks && flags->other.at)
         needs_gnu(scan, "", flags->other);
+    if (checks && flags->c_format && (has_odd_directive(entry->id) || has_odd_directive(entry->plural)))
+        needs_gnu_for_c_format(scan);
     if (checks && flags->checked && (flags->has_range || !has_library()))
         needs_gnu_for(scan, flags->checked);
     if (checks && !scan->needs.format)

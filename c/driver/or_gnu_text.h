@@ -125,6 +125,13 @@ void add_key(struct keys *keys, const struct entry *entry);
 /* Whether an obsolete entry has the key of another one; it frees the keys. */
 bool has_obsolete_repeat(struct keys *keys);
 
+/* ---- formats of C (or_gnu_c_format.c) */
+
+/* Whether the strings of a keyword have a directive of C that only GNU msgfmt reads, such as `%Zu`. */
+bool has_odd_directive(struct part strings);
+/* Whether a PO text may have one, in whatever entry. A `%` that is spelled as an escape isn't seen. */
+bool may_have_odd_directive(struct part text);
+
 /* ---- the header (or_gnu_header.c) */
 
 /* Whether a plural rule stands in the header's text and can't be read. */

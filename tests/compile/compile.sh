@@ -147,8 +147,12 @@ says 'compile, LINGUAS of a manual' 3 'kob-compile: manual/help/LINGUAS lists nl
 holds 'compile, LINGUAS of a manual: LANGUAGE/LANGUAGE.po' is_as_msgfmt manual/help/de/de.mo manual/help/de/de.po
 printf 'fr nl\n' > project/po/LINGUAS
 says 'compile, LINGUAS lists what is not there' 3 'kob-compile: project/po/LINGUAS lists nl, and there is no nl.po' -q project/po
+mkdir empty && po again.po fr a && ln -s one link
 says 'compile, no such folder' 3 'kob-compile: cannot read none: No such file or directory' none
-mkdir empty
+holds 'compile, no such folder: no summary' [ ! -s out ]
+says 'compile, a slash behind a file' 3 'kob-compile: cannot read again.po/: Not a directory' -q again.po/
+says 'compile, a slash and a dot behind a file' 3 'kob-compile: cannot read again.po/.: Not a directory' -q again.po/.
+says 'compile, a link to a folder, and slashes' 0 '' -q .//link//
 says 'compile, no PO file' 2 'kob-compile: no PO file found; name a folder or files' empty
 mkfifo pipe.po
 says 'compile, a pipe' 3 'kob-compile: pipe.po is neither a folder nor a regular file' pipe.po
@@ -420,10 +424,33 @@ says 'compile, the flag I, --no-gnu' 0 'macros/fa.po: 1 translated message.' --n
 says 'compile, macros, --no-gnu' 0 'macros/fr.po: 2 translated messages.' --no-gnu -q -c --statistics macros/fr.po
 { header UTF-8 fr && printf '#, c-format\nmsgid "%%<PRIu64>"\nmsgstr "%%<PRId64>"\n'; } > wrong.po
 says 'compile, a macro of another type, --no-gnu' 1 'wrong.po:5: format arguments differ' --no-gnu -q -c wrong.po
+c_format='#, c-format\nmsgid "a %%Zu"\nmsgstr "b %%'
+{ header UTF-8 fr && printf "$c_format"'s"\n'; } > undefined.po
+says 'compile, a directive that only GNU msgfmt reads, --no-gnu' 0 '' --no-gnu -q --check undefined.po
 if [ -n "$gnu" ]; then
+  says 'compile, a directive that only GNU msgfmt reads' 1 \
+    "undefined.po:6: format specifications in 'msgid' and 'msgstr' for argument 1 are not the same" -q -c undefined.po
+  holds 'compile, a directive that only GNU msgfmt reads: nothing is written' is_absent undefined.mo
+  says 'compile, a directive that only GNU msgfmt reads, without -c' 0 '' -q undefined.po
+  holds 'compile, a directive that only GNU msgfmt reads, without -c: the bytes' is_as_msgfmt undefined.mo undefined.po
+  (unset GNU_MSGFMT && PATH=$room/none && "$tested" -q --check undefined.po) 2> err
+  status=$?
+  judge 'compile, a directive that only GNU msgfmt reads, no GNU msgfmt' 0 '' &&
+    ok 'compile, a directive that only GNU msgfmt reads, no GNU msgfmt'
+  { header UTF-8 fr && printf "$c_format"'zu"\n'; } > undefined.po
+  run --check --json undefined.po
+  holds 'compile, a directive that only GNU msgfmt reads and accepts' grep -q '"outcome":"checked","by":"GNU"' out
+  for it in 'c-format, no-c-format' 'c-format\n#, no-c-format'; do
+    { header UTF-8 fr && printf "#, $it"'\nmsgid "%%<PRIu64>"\nmsgstr "%%<PRIu64>"\n'; } > denied.po
+    "$gnu" --no-hash -o wanted.gnu denied.po
+    says "compile, a macro, $it" 0 '' -q --force denied.po
+    holds "compile, a macro, $it: the bytes of GNU msgfmt" cmp -s denied.mo wanted.gnu
+  done
   run --no-gnu --force -q macros
   wrong=''
   for it in macros/*.po; do
+    # (a text with a directive that isn't read keeps its macros, so GNU msgfmt compiles it)
+    ! grep -q '%[-0-9.*]*Z[diouxX]' "$it" || run --force -q "$it"
     "$gnu" --no-hash -o wanted.gnu "$it" 2> said && cmp -s wanted.gnu "${it%.po}.mo" || wrong+="$it "
   done
   holds "compile, macros: the bytes of GNU msgfmt${wrong:+: not of $wrong}" [ -z "$wrong" ]

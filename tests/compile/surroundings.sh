@@ -26,6 +26,22 @@ rm -r links/there
 says 'compile, a link into a folder that is not there' 3 \
   'kob-compile: cannot write links/fr.mo: No such file or directory' -q --force links
 
+# --- an old file whose group can't be kept ----------------------------------------------------------------------------------
+
+if [ "$(id -u)" = 0 ] && command -v setpriv > /dev/null; then
+  po grouped/fr.po fr a && echo old > grouped/fr.mo
+  chmod 755 "$room" && chmod 777 grouped && chmod 644 grouped/*
+  touch -d 2001-01-01 grouped/fr.mo
+  cp "$tested" "$room/kob-compile"
+  of_sources=$tested tested=$room/kob-compile under=(setpriv --reuid=65534 --regid=65534 --clear-groups)
+  says "compile, an old file whose group can't be kept" 0 '' -q grouped
+  holds "compile, an old file whose group can't be kept: the group may do what all may" \
+    [ "$(stat -c %a grouped/fr.mo)" = 644 ]
+  tested=$of_sources under=()
+else
+  skipped "compile, an old file whose group can't be kept" 'another user is needed: run it as root, with setpriv'
+fi
+
 # --- names -----------------------------------------------------------------------------------------------------------------
 
 po names/po/fr.po fr a

@@ -210,6 +210,35 @@ if [ $status = 0 ] && head -n "$(wc -l < wanted.out)" out | cmp -s - wanted.out 
   logs 'driver, -h' ''
 else failed 'driver, -h' "$(diff out wanted.out | head -n 3)"; fi
 
+# a reader that has seen enough, under pipefail: each of these programs prints at once
+name='driver, a reader of --version and of -h that leaves after a line'
+left=0
+for it in $(seq 50); do
+  for option in --version -h; do (set -o pipefail && "$driver" $option | head -n 1 > /dev/null) || left=$((left + 1)); done
+done
+[ $left = 0 ] && ok "$name" || failed "$name" "$left of 100 ended by a signal"
+
+# --- descriptors, streams and names -----------------------------------------------------------------------------------
+
+name='driver, a FIFO, and an output by a descriptor of the caller'
+mkfifo first_fifo
+cat ours.po > first_fifo &
+"$driver" -o /dev/fd/9 first_fifo 9> x.mo
+wait
+cat ours.po | "$driver" -o /dev/fd/9 - 9> y.mo
+"$program" -o wanted.mo ours.po
+if cmp -s x.mo wanted.mo && cmp -s y.mo wanted.mo; then ok "$name"; else failed "$name" "$(wc -c x.mo y.mo)"; fi
+
+name='driver, a stream without an end'
+if said=$(yes | (ulimit -v 1200000 && "$driver" -o x.mo - 2>&1)); then failed "$name" "status 0: $said"
+elif [ "$said" = 'msgfmt-or-gnu: -: more than 64 MiB: write it to a file, and name that' ]; then ok "$name"
+else failed "$name" "$said"; fi
+
+name='driver, a name with a line end, and warnings that nobody asked for'
+cp fields.po "$(printf 'line\nend.po')"
+said=$("$driver" --check-format -o x.mo "$(printf 'line\nend.po')" 2>&1)
+[ -z "$said" ] && ok "$name" || failed "$name" "$said"
+
 # --- flags in lines #= ------------------------------------------------------------------------------------------------
 
 # newer VERSION: a GNU msgfmt that says that it has this version

@@ -126,6 +126,33 @@ answers 'a macro, untranslated' ours "$ab"'#, c-format\nmsgid "%%<PRId64>"\nmsgs
 answers 'a macro, obsolete' ours "$ab"'#, c-format\n#~ msgid "%%<PRId64>"\n#~ msgstr "%%<PRId64>"\n'
 answers 'a macro without the flag' ours "$macro"
 
+# --- directives of C that only GNU msgfmt reads -------------------------------------------------------------------------
+
+# unread NAME LOG DIRECTIVE FORM ARGUMENT..: as answers, of a c-format message
+unread() { answers "only GNU reads $1" "$2" "$c"'msgid "a '"$3"'"\nmsgstr "b '"$4"'"\n' "${@:5}"; }
+refused='GNU\t1\tc-format not read here' accepted='GNU\t0\tc-format not read here'
+for pair in '%%Zu %%s' '%%Zd %%s' '%%hs %%d' '%%hhc %%s' '%%LS %%d' '%%lp %%d' '%%llf %%s' '%%qm %%d' '%%lll%% %%d' '%%1$m %%d' \
+  '%%01$d %%s' '%%1$*02$d %%s' '%%1$-5.*02$d %%s' '%%0000000001$d %%s' "%%-+ #0'5.*hs %%d" '%%"\n"Zu %%s' '\\45Zu %%s'; do
+  unread "$pair" "$refused" "${pair% *}" "${pair##* }" -c
+done
+unread 'the same' "$accepted" '%%Zu' '%%zu' -c
+unread 'one of several' "$refused" '100%% %%s %%d %%hs' '%%s' --check-format
+unread 'without -c' ours '%%Zu' '%%s'
+unread 'the header checked' ours '%%Zu' '%%s' --check-header
+for it in '%%-05.3lu' '%%1$*2$.*3$hhn' '%%.*Lf' '%%*.*%%' '%%lc %%ls %%S' '%%qd %%jx %%to %%zi' '%%123456789012d'; do
+  unread "not: $it" ours "$it" "$it" -c
+done
+for it in '%%Z' '%%hy' '%%hK %%w' 'Zu hs %%'; do unread "not, $it" ours "$it" '%%d' -c; done
+plain='msgid "a %%Zu"\nmsgstr "b %%s"\n'
+answers 'only GNU reads it, fuzzy' ours "$ab#, c-format, fuzzy\n$plain" -c
+answers 'only GNU reads it, fuzzy' "$refused" "$ab#, c-format, fuzzy\n$plain" -c -f
+answers 'only GNU reads it, obsolete' ours "$ab$c"'#~ msgid "%%Zu"\n#~ msgstr "%%s"\n' -c
+answers 'only GNU reads it, untranslated' ours "$ab$c"'msgid "%%Zu"\nmsgstr ""\n' -c
+answers 'only GNU reads it, without the flag' ours "$plain" -c
+answers 'only GNU reads it, no-c-format' ours "#, no-c-format\n$plain" -c
+answers 'only GNU reads it, a plural' "$refused" \
+  "$c"'msgid "one"\nmsgid_plural "%%Zu more"\nmsgstr[0] "%%s"\nmsgstr[1] "%%d"\n' --check-format
+
 # --- newlines without -c ------------------------------------------------------------------------------------------------
 
 newlines='GNU\t1\tnewlines differ'
