@@ -29,7 +29,9 @@ PAGE = """\
 def create_app(folder: str = os.environ.get("LOCALEDIR", "locale")) -> Flask:
     """Return the application, with the catalogues of a folder."""
     languages = sorted(path.parts[-3] for path in Path(folder).glob("*/LC_MESSAGES/shop.mo"))
-    catalogues = {name: kobdzila.translation("shop", folder, [name]) for name in languages}
+    catalogues: dict[str, kobdzila.NullTranslations] = {
+        name: kobdzila.translation("shop", folder, [name]) for name in languages
+    }
     catalogues.setdefault(SOURCE, kobdzila.NullTranslations())
     app = Flask(__name__)
     app.jinja_env.add_extension("jinja2.ext.i18n")

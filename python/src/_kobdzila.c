@@ -604,6 +604,47 @@ static PyType_Spec catalogue_spec = {
 
 /* ------------------------------------------------------------------------------------------------ the module */
 
+PyDoc_STRVAR(format_faults_text, "format_faults($module, data, use_fuzzy, /)\n--\n\n"
+                                 "Return what is wrong with the formats of other languages than C in a PO text, as\n"
+                                 "tuples of the line of a msgstr, the language, the form and the difference.");
+
+/* Return the faults as a list of tuples of int. */
+static PyObject *listed(const kob_format_faults *faults) {
+    PyObject *list = PyList_New(0);
+    kob_format_fault fault;
+    for (size_t k = 0; list && kob_format_fault_at(faults, k, &fault); k++) {
+        PyObject *row = Py_BuildValue("(IiIi)", fault.line, (int)fault.language, fault.form, (int)fault.difference);
+        if (!row || PyList_Append(list, row) < 0)
+            Py_CLEAR(list);
+        Py_XDECREF(row);
+    }
+    return list;
+}
+
+static PyObject *format_faults(PyObject *module, PyObject *args) {
+    PyObject *bytes;
+    int use_fuzzy;
+    char *at;
+    Py_ssize_t len;
+    if (!PyArg_ParseTuple(args, "Sp", &bytes, &use_fuzzy) || PyBytes_AsStringAndSize(bytes, &at, &len) < 0)
+        return NULL;
+    kob_refusal why;
+    kob_format_faults *faults;
+    Py_BEGIN_ALLOW_THREADS
+    faults = kob_check_formats(at, (size_t)len, KOB_CHECKED | (use_fuzzy ? KOB_USE_FUZZY : 0), &why);
+    Py_END_ALLOW_THREADS
+    if (!faults)
+        return refuse(PyModule_GetState(module), &why);
+    PyObject *list = listed(faults);
+    kob_format_faults_free(faults);
+    return list;
+}
+
+static PyMethodDef functions[] = {
+    { "format_faults", format_faults, METH_VARARGS, format_faults_text },
+    { NULL, NULL, 0, NULL },
+};
+
 /* Return the attribute `name` of a module of the package. */
 static PyObject *imported(const char *module_name, const char *name) {
     PyObject *module = PyImport_ImportModule(module_name);
@@ -692,6 +733,7 @@ static struct PyModuleDef definition = {
     .m_name = "kobdzila._kobdzila",
     .m_doc = "The catalogues and stores of libkobdzila.",
     .m_size = sizeof(struct state),
+    .m_methods = functions,
     .m_slots = first_slots,
     .m_traverse = module_traverse,
     .m_clear = module_clear,

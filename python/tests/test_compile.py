@@ -12,14 +12,17 @@ import subprocess
 import sys
 import tempfile
 import time
+import tty
 import unittest
 from pathlib import Path
+from typing import Any
 from unittest import mock
 
 import kobdzila
 from common import needs_testcapi, failures_of
 from kobdzila import Fault, Refused, compile_po
 from kobdzila._command import main
+from kobdzila._compile import replace
 from kobdzila._formats import braces, percents
 from texts import ARABIC, FRENCH, HEADER
 
@@ -31,10 +34,14 @@ BROKEN = 'msgid "a"\nmsgstr "b\n'
 FITTING = [
     ("python-format", "%d files", "%d fichiers"), ("python-format", "%(n)d of %(m)s", "%(m)s: %(n)d"),
     ("python-format", "100 %", "cent %"), ("python-format", "%s", "%r"), ("python-format", "%d", "%x"),
-    ("python-format", "%(a)s %(a)s", "%(a)s"), ("python-format", "%5.2f%%", "%f %%"), ("python-format", "%d", ""),
+    ("python-format", "%(a)s %(a)s", "%(a)s"), ("python-format", "%(a(b))s", "le %(a(b))s"),
+    ("python-format", "%5.2f%%", "%f %%"), ("python-format", "%d", ""),
     ("python-format", "%*d", "%*d"), ("python-format", "a", "b"), ("python-format", "%c", "%c"),
     ("python-brace-format", "{n} of {m}", "{m}: {n}"), ("python-brace-format", "{n.x} {m[0]}", "{m[0]} {n.x}"),
     ("python-brace-format", "{n:>{width}}", "{n:{width}}"), ("python-brace-format", "{{n}}", "n"),
+    ("python-brace-format", "{}", "{1}"), ("python-brace-format", "{} of {}", "{1} de {0}"),
+    ("python-brace-format", "{}", "{0}"),
+    ("python-brace-format", "{n}", "{n} }"),
     ("c++-format", "{n}", "{m}"), ("no-python-format", "%d", "%s"),
 ]
 REFUSED = [
@@ -45,7 +52,10 @@ REFUSED = [
     ("python-format", "%c", "%d"), ("python-format", "%f", "%d"), ("python-format", "a", "%d"),
     ("python-brace-format", "{n}", "{m}"), ("python-brace-format", "{n}", "n"), ("python-brace-format", "n", "{n}"),
     ("python-brace-format", "{n}", "{n"),
-    ("python-brace-format", "{n.x}", "{n}"),
+    ("python-brace-format", "{n.x}", "{n}"), ("python-brace-format", "{a:d}", "{a}"),
+    ("python-brace-format", "{n:{w}}", "{n}"),
+    ("python-brace-format", "{0} of {1}", "{} de {}"), ("python-brace-format", "{a}", "{a!r}"),
+    ("python-format", "%(a(b))s", "%(a(c))s"), ("python-format", "%(a)s", "%(a(b))s"),
 ]
 
 
@@ -92,8 +102,19 @@ class CompileTest(unittest.TestCase):
             self.assertIn("line 2: msgstr ", is_refused(entry(*row)), row)
             compile_po(entry(*row))
             self.assertEqual(is_refused(entry(f"fuzzy, {row[0]}", *row[1:])), "")
-        # (str.format raises ValueError; GNU msgfmt 0.21 accepts it)
-        self.assertTrue(is_refused(entry("python-brace-format", "{n}", "{n} }")))
+
+    def test_words(self) -> None:
+        for flag, message, form, said in (
+            ("python-format", "%(n)d", "%(m)d", "takes 'm', which the message doesn't"),
+            ("python-format", "%(n)d", "%(n)s", "takes a text for 'n', and the message an integer"),
+            ("python-format", "%(n)d", "%d", "takes its arguments by position, and the message by name"),
+            ("python-format", "%s", "%s %s", "takes 2 arguments, and the message 1"),
+            ("python-format", "%s", "%y", "has '%y', which is no directive of '%'"),
+            ("python-format", "%(a(b))s", "%(a(c))s", "takes 'a(c)', which the message doesn't"),
+            ("python-brace-format", "{n}", "n", "doesn't take 'n', which the message does"),
+            ("python-brace-format", "{a:d}", "{a}", "takes other arguments than the message"),
+        ):
+            self.assertEqual(is_refused(entry(flag, message, form)), f"line 2: msgstr {said}")
 
     def test_layouts(self) -> None:
         """However an entry is written, it is compared; texts that only look like one are not."""
@@ -231,13 +252,66 @@ class CommandTest(unittest.TestCase):
                               capture_output=True, check=False)
         self.assertEqual((done.returncode, self.made()), (2, []))
 
+    def test_unreadable_settings(self) -> None:
+        if not importlib.util.find_spec("django"):
+            self.skipTest("no Django")
+        for number, text in enumerate(("1 // 0\n", "LOCALE_PATHS = [None]\n", "def", "LOCALE_PATHS = 5\n")):
+            self.put(f"broken{number}.py", text)
+            variables = {**os.environ, "DJANGO_SETTINGS_MODULE": f"broken{number}"}
+            done = subprocess.run([sys.executable, "-m", "kobdzila", "compile"], env=variables, text=True,
+                                  capture_output=True, check=False)
+            self.assertEqual((done.returncode, "Traceback" in done.stderr, self.made()), (2, False, []), text)
+            self.assertIn("can't be read: ", done.stderr)
+
+    def test_not_printable(self) -> None:
+        """Where nothing can be printed, the files are compiled, and refusals are told."""
+        self.put("broken.po", BROKEN)
+        name = os.fsdecode(b"a\xff.po")
+        self.put(name, FRENCH)
+        closed, writing = os.pipe()
+        os.close(closed)
+        variables = {**os.environ, "PYTHONIOENCODING": "utf-8:strict"}
+        with open("/dev/full", "wb") as full:
+            rows: list[tuple[Any, Any, list[str]]] = [
+                (full, subprocess.PIPE, ["broken.po:2: ", "1 of 2 files refused", "standard output: No space left"]),
+                (writing, subprocess.PIPE, ["broken.po:2: ", "1 of 2 files refused"]),
+                (subprocess.PIPE, subprocess.PIPE, ["broken.po:2: ", "1 of 2 files refused"]),
+                (subprocess.DEVNULL, full, []), (full, full, []),
+            ]
+            for out, err, said in rows:
+                command = [sys.executable, "-m", "kobdzila", "compile", "-v", name, "broken.po"]
+                done = subprocess.run(command, env=variables, stdout=out, stderr=err, check=False)
+                lines = (done.stderr or b"").decode().splitlines()
+                self.assertEqual((done.returncode, len(lines)), (1, len(said)), lines)
+                for line, part in zip(lines, said):
+                    self.assertIn(part, line)
+                if out == subprocess.PIPE:
+                    self.assertEqual(done.stdout, b"a\\udcff.po -> a\\udcff.mo\n1 file compiled\n")
+                self.assertEqual(self.made(), [name[:-3] + ".mo"])
+            others: list[tuple[Any, int]] = [(full, 1), (writing, 1), (None, 0)]
+            for out, status in others:
+                closing = "exec >&-; exec \"$@\"" if out is None else "exec \"$@\""
+                command = ["sh", "-c", closing, "sh", sys.executable, "-m", "kobdzila", "compile", name]
+                done = subprocess.run(command, env=variables, stdout=out, stderr=subprocess.PIPE, check=False)
+                self.assertEqual((done.returncode, b"Traceback" in done.stderr), (status, False), done.stderr)
+        os.close(writing)
+
     def test_wrong_options(self) -> None:
         for words, said in ((["-d", "none"], "there is no folder none"), (["-o", "x.mo"], "-i FILE"),
                             (["-i", "a.po", "-d", "locale"], "-l LOCALE"), (["-D", "none", "-d", "locale"], "no PO files"),
-                            (["-l", "xx"], "no PO files"), (["--jobs", "x"], "invalid int"), (["--none"], "--none")):
+                            (["-l", "xx"], "no PO files"), (["--jobs", "x"], "invalid int"), (["--none"], "--none"),
+                            (["-i", "a.po", "-o", "x.mo", "b.po"], "one PO file"), (["-j", "0"], "from 1 on"),
+                            (["-j", "-5"], "from 1 on"), (["-o", "x.mo", "a.po", "b.po"], "one PO file"),
+                            (["a.po", "-d", "none", "-l", "de", "-D", "zz"], "--directory and --domain and --locale"),
+                            (["a.po", "-x", "de"], "--exclude"), (["a.po", "-i", "b.po"], "--input-file"),
+                            (["a.po", "--ignore", "b"], "--ignore"),
+                            (["-i", "a.po", "-o", "x.mo", "-x", "de"], "--exclude"),
+                            (["-i", "a.po", "-d", "locale", "b.po", "-l", "de"], "one PO file"),
+                            (["-i", "a.po", "-d", "locale", "-l", "de", "-D", "a,b"], "one -D DOMAIN")):
             status, out, err = self.call(*words)
             self.assertEqual((status, out), (2, ""), words)
             self.assertIn(said, err, words)
+        self.assertEqual(self.made(), [])
 
     def test_refusals(self) -> None:
         """Each one is told at the end, with its file and line, and leaves the old MO file."""
@@ -270,7 +344,7 @@ class CommandTest(unittest.TestCase):
         names = self.many(100)
         for number in (3, 50, 99):
             self.put(names[number], "\n" * number + "msg")
-        for jobs in ("1", "4", "99", "0", "-1"):
+        for jobs in ("1", "4", "99"):
             status, out, err = self.call("-d", "many", "-j", jobs, "--statistics")
             self.assertEqual((status, out.splitlines()[-1]), (1, "97 files compiled"))
             self.assertEqual(out.splitlines()[0], f"4 of 4 messages (100%) translated in {names[0]}")
@@ -300,6 +374,17 @@ class CommandTest(unittest.TestCase):
         self.assertIn("locale/fr/LC_MESSAGES/shop.po: x/", err)
         self.assertIn("Not a directory", err)
 
+    def test_another_group(self) -> None:
+        if os.geteuid():
+            self.skipTest("only root gives a file away")
+        for mode in (0o644, 0o640):
+            Path("x.mo").write_bytes(b"old")
+            os.chown("x.mo", 12345, 12345)
+            os.chmod("x.mo", mode)
+            with mock.patch("os.chown", side_effect=PermissionError):
+                replace("x.mo", b"new")
+            self.assertEqual(os.stat("x.mo").st_mode & 0o777, 0o644 if mode == 0o644 else 0o600)
+
     def test_permissions(self) -> None:
         before = os.umask(0o027)
         try:
@@ -307,6 +392,47 @@ class CommandTest(unittest.TestCase):
         finally:
             os.umask(before)
         self.assertEqual(os.stat("x.mo").st_mode & 0o777, 0o640)
+        os.chmod("x.mo", 0o600)
+        self.assertEqual(self.call("-i", "locale/fr/LC_MESSAGES/shop.po", "-o", "x.mo")[0], 0)
+        self.assertEqual(os.stat("x.mo").st_mode & 0o777, 0o600)
+
+    def test_links(self) -> None:
+        """The file that a link names is replaced, and the link stays, also one whose file isn't there yet."""
+        wanted = compile_po(FRENCH.encode())
+        for there in (b"old", None):
+            Path("far").mkdir(exist_ok=True)
+            if there:
+                Path("far/shop.mo").write_bytes(there)
+            link = Path("locale/fr/LC_MESSAGES/shop.mo")
+            link.symlink_to("../../../far/shop.mo")
+            self.assertEqual(self.call("locale/fr/LC_MESSAGES/shop.po")[0], 0)
+            self.assertEqual((link.is_symlink(), Path("far/shop.mo").read_bytes()), (True, wanted))
+            self.assertEqual(len(self.made()), 2)
+        Path("loop.mo").symlink_to("loop.mo")
+        status, _, err = self.call("-i", "locale/fr/LC_MESSAGES/shop.po", "-o", "loop.mo")
+        self.assertEqual((status, "loop.mo: Too many levels" in err), (1, True))
+        os.unlink("loop.mo")
+
+    def test_streams(self) -> None:
+        """A pipe or a device is written, also by a link to it, and stays what it is. A folder is refused."""
+        wanted = compile_po(FRENCH.encode())
+        os.mkfifo("pipe")
+        Path("link").symlink_to("pipe")
+        parent, child = pty.openpty()
+        tty.setraw(child)
+        self.addCleanup(os.close, parent)
+        self.addCleanup(os.close, child)
+        reader = os.open("pipe", os.O_RDONLY | os.O_NONBLOCK)
+        self.addCleanup(os.close, reader)
+        for name, file in (("pipe", reader), ("link", reader), (os.ttyname(child), parent)):
+            before = os.lstat(name)
+            self.assertEqual(self.call("-i", "locale/fr/LC_MESSAGES/shop.po", "-o", name)[0], 0)
+            self.assertEqual(os.read(file, len(wanted) + 1), wanted)
+            self.assertEqual((os.lstat(name).st_ino, os.lstat(name).st_mode), (before.st_ino, before.st_mode))
+        Path("folder").mkdir()
+        status, _, err = self.call("-i", "locale/fr/LC_MESSAGES/shop.po", "-o", "folder")
+        self.assertEqual((status, "folder: Is a directory" in err), (1, True))
+        self.assertEqual(self.made(), [])
 
     def test_statistics(self) -> None:
         self.put("a.po", HEADER + 'msgid "a"\nmsgstr "b"\n\n#, fuzzy\nmsgid "c"\nmsgstr "d"\n\nmsgid "e" msgstr ""\n\n'

@@ -5,19 +5,24 @@ The expected values are those of the standard module.
 from __future__ import annotations
 
 import copy
+import decimal
 import enum
+import functools
 import gettext
 import io
 import operator
 import os
+import pickle
 import subprocess
 import sys
 import tempfile
+import threading
 import unittest
 import warnings
 from collections.abc import Callable
 from pathlib import Path
-from typing import Any
+from typing import Any, Literal
+from unittest import mock
 
 import kobdzila
 from kobdzila import Catalogue, GNUTranslations, Snapshot, Store
@@ -96,14 +101,82 @@ def readers() -> list[Any]:
     return [gettext.GNUTranslations(io.BytesIO(FILE)), GNUTranslations(FILE), store.snapshot("fr")]
 
 
-def said(work: Callable[[], object]) -> object:
+def said(work: Callable[[], object], of_warnings: Literal["ignore", "error"] = "ignore") -> object:
     """What a call answers, or the exception that it raises."""
     try:
         with warnings.catch_warnings():
-            warnings.simplefilter("ignore")
+            warnings.simplefilter(of_warnings)
             return work()
     except Exception as fault:
         return type(fault), str(fault)
+
+
+def slots(base: Any) -> Any:
+    """A class with attributes in slots."""
+    class Slots(base):  # type: ignore[misc]
+        __slots__ = ("lines", "none", "__private")
+
+        def __init__(self, fp: Any) -> None:
+            super().__init__(fp)
+            self.lines, self.__private = [1], 2
+            setattr(self, "own", 3)
+
+        def seen(self) -> object:
+            return self.lines, self.__private, self.own, hasattr(self, "none")
+
+    return Slots
+
+
+def state(base: Any) -> Any:
+    """A class with an attribute that can't be copied."""
+    class State(base):  # type: ignore[misc]
+        def __init__(self, fp: Any) -> None:
+            super().__init__(fp)
+            self.lock, self.own = threading.Lock(), 3
+
+        def __getstate__(self) -> Any:
+            return {name: value for name, value in vars(self).items() if name != "lock"}
+
+        def seen(self) -> object:
+            return vars(self).get("lock") is not None, self.own, vars(self).get("was_set")
+
+    return State
+
+
+def both(base: Any) -> Any:
+    """A class like that of `state`, with a method that sets the copied state."""
+    class Both(state(base)):  # type: ignore[misc]
+        def __setstate__(self, values: Any) -> None:
+            self.__dict__.update(values, was_set=True)
+
+    return Both
+
+
+class Shouts(gettext.NullTranslations):
+    def gettext(self, message: str) -> str:
+        return message.upper()
+
+
+class Own(GNUTranslations):
+    def gettext(self, message: str) -> str:
+        return f"<{super().gettext(message)}>"
+
+
+class Theirs(gettext.GNUTranslations):
+    def gettext(self, message: str) -> str:
+        return f"<{super().gettext(message)}>"
+
+
+def counting(self: Any, n: int) -> int:
+    return 1
+
+
+def rule(self: Any) -> Any:
+    return lambda n: 0 if n == 7 else 1
+
+
+def set_aside(self: Any, value: Any) -> None:
+    self.aside = value
 
 
 class KeysTest(unittest.TestCase):
@@ -130,6 +203,27 @@ class KeysTest(unittest.TestCase):
                     for context in ("menu", Lazy("menu"), None):
                         words = context, "%d item", "more", n
                         self.assertEqual(said(lambda: it.npgettext(*words)), said(lambda: theirs.npgettext(*words)), words)
+
+    def test_numbers_without_rule(self) -> None:
+        """The rule of a file without one takes anything, and warns of nothing; in a chain, each rule is asked."""
+        plain = mo((b"", b"Content-Type: text/plain; charset=UTF-8\n"), (b"a\0b", b"x\0y"), (b"c\x04a\0b", b"v\0w"))
+        for chain in ([plain], [plain, FILE], [FILE, plain]):
+            store = Store("shop")
+            for number, file in enumerate(chain):
+                store.load("shop", f"l{number}", file)
+            store.publish()
+            ours: list[Any] = [GNUTranslations(chain[0]), store.snapshot([f"l{it}" for it in range(len(chain))])]
+            theirs: Any = gettext.GNUTranslations(io.BytesIO(chain[0]))
+            for file in chain[1:]:
+                theirs.add_fallback(gettext.GNUTranslations(io.BytesIO(file)))
+                ours[0].add_fallback(GNUTranslations(file))
+            for it in ours:
+                for n in (1, 2, -1, "2", None, b"1", [], 1j, 1.0, 2.0, 1.5, decimal.Decimal(2)):
+                    for message in ("a", "no", None):
+                        self.assertEqual(said(lambda: it.ngettext(message, "more", n), "error"),
+                                         said(lambda: theirs.ngettext(message, "more", n), "error"), (message, n))
+                        self.assertEqual(said(lambda: it.npgettext("c", message, "more", n), "error"),
+                                         said(lambda: theirs.npgettext("c", message, "more", n), "error"), n)
 
     def test_exceptions(self) -> None:
         for it in readers()[1:]:
@@ -221,6 +315,39 @@ class CatalogTest(unittest.TestCase):
         self.assertEqual((ours.number, ours.gettext("added")), (theirs.number, theirs.gettext("added")))
         self.assertIsInstance(ours, gettext.GNUTranslations)
 
+    def test_overridden(self) -> None:
+        """The rule of plurals, the form of a context and the fallback, as programs or their classes set them."""
+        def parsed(self: Any, fp: Any) -> None:
+            bases[type(self)]._parse(self, fp)
+            self.plural = lambda n: 1
+
+        other = gettext.GNUTranslations(io.BytesIO(Catalogue.from_po(b'msgid "cart"\nmsgstr "chariot"\n').mo_file()))
+        classes: list[dict[str, Any]] = [
+            {}, {"plural": counting}, {"plural": property(rule, set_aside)}, {"_parse": parsed}, {"CONTEXT": "%s!%s"},
+            {"_fallback": property(lambda self: other, set_aside)}, {"plural": functools.cached_property(rule)}]
+        bases: dict[type, Any] = {}
+        for names in classes:
+            made: list[Any] = []
+            for base in (gettext.GNUTranslations, GNUTranslations):
+                class_ = type("Own", (base,), dict(names))
+                bases[class_] = base
+                it = class_(io.BytesIO(FILE))
+                if "_fallback" not in names:
+                    it.add_fallback(other)
+                made += [it, copy.copy(it)]
+                made[-1].plural = lambda n: 0 if n == 5 else 1
+            for theirs, ours in zip(made[:2], made[2:]):
+                for n in (0, 1, 2, 5, 7, -1):
+                    self.assertEqual(ours.plural(n), theirs.plural(n), (names, n))
+                    words = "menu", "%d item", "more", n
+                    self.assertEqual(ours.npgettext(*words), theirs.npgettext(*words), (names, n))
+                    files = "%d file", "more", n
+                    self.assertEqual(ours.ngettext(*files), theirs.ngettext(*files), (names, n))
+                self.assertEqual((ours.pgettext("verb", "order"), ours.gettext("cart")),
+                                 (theirs.pgettext("verb", "order"), theirs.gettext("cart")), names)
+        with self.assertRaises(AttributeError):
+            setattr(Catalogue.from_mo(FILE), "plural", counting)
+
     def test_opened_again(self) -> None:
         other = Catalogue.from_po(b'msgid ""\nmsgstr "Language: de\\nPlural-Forms: nplurals=1; plural=0;\\n"\n').mo_file()
         for it in readers()[:2]:
@@ -237,6 +364,19 @@ class CatalogTest(unittest.TestCase):
         ours._fallback.__init__(FILE)
         self.assertEqual((ours.gettext("cart"), deep.gettext("cart")), ("cart", "chariot"))
         self.assertEqual(copy.deepcopy(Catalogue.from_mo(FILE)).gettext("basket"), "panier")
+
+    def test_states(self) -> None:
+        """A class's slots, and its methods for the state of a copy, count, also in what `translation` returns."""
+        with tempfile.TemporaryDirectory() as room:
+            path = Path(room, "fr", "LC_MESSAGES", "shop.mo")
+            path.parent.mkdir(parents=True)
+            path.write_bytes(FILE)
+            for made in (slots, state, both):
+                seen = []
+                for module in (gettext, kobdzila):
+                    it = module.translation("shop", room, ["fr"], made(module.GNUTranslations))
+                    seen.append([it.seen(), copy.copy(it).seen(), copy.deepcopy(it).seen(), it.gettext("basket")])
+                self.assertEqual(seen[0], seen[1], made)
 
 
 class OrderTest(unittest.TestCase):
@@ -324,6 +464,39 @@ print(standard.textdomain(), gettext.gettext("usage: "), gettext._localedirs is 
         finally:
             kobdzila._translations = kept
 
+    def test_patched(self) -> None:
+        """What a program sets in the module, the functions of the module use, until it is taken back."""
+        with tempfile.TemporaryDirectory() as room:
+            path = Path(room, "fr", "LC_MESSAGES", "patched.mo")
+            path.parent.mkdir(parents=True)
+            path.write_bytes(FILE)
+            for module, own in ((gettext, Theirs), (kobdzila, Own)):
+                def answers() -> list[object]:
+                    made = module.translation("patched", languages=["fr"], fallback=True)
+                    return [made.gettext("basket"), module.dgettext("patched", "basket"), module.gettext("basket"),
+                            module.dngettext("patched", "%d file", "more", 2), module.find("patched", languages=["x"])]
+
+                def patched(**names: Any) -> list[object]:
+                    with mock.patch.multiple(module, **names):
+                        return answers()
+
+                with mock.patch.dict(os.environ, {"LANGUAGE": "fr"}):
+                    plain = answers()
+                    self.assertEqual(plain, ["basket"] * 3 + ["more", None])
+                    found = patched(_default_localedir=room)
+                    self.assertEqual(found, ["panier", "panier", "basket", "%d fichiers", None])
+                    self.assertEqual(patched(_default_localedir=room, _expand_lang=lambda it: ["fr"])[4], str(path))
+                    found = patched(_default_localedir=room, GNUTranslations=own)
+                    self.assertEqual(found[:3], ["<panier>", "<panier>", "basket"])
+                    self.assertEqual(patched(_default_localedir=room, _current_domain="patched")[2], "panier")
+                    self.assertEqual(patched(translation=lambda *_, **__: Shouts())[:3], ["BASKET"] * 3)
+                    self.assertEqual(patched(dgettext=lambda domain, text: domain)[1:3], ["patched", "messages"])
+                    self.assertEqual(patched(NullTranslations=Shouts)[0], "BASKET")
+                    self.assertEqual(patched(_translations={}), plain)
+                    self.assertEqual(answers(), plain)
+        with self.assertRaises(AttributeError):
+            del kobdzila.nothing
+
     def test_import(self) -> None:
         """`import kobdzila` reads none of the modules that only some programs need."""
         # (what a .pth file of the installation has imported already doesn't count)
@@ -360,6 +533,28 @@ class LazyTest(unittest.TestCase):
         self.assertEqual(str(basket), "basket")
         with self.assertRaises(ValueError):
             texts.gettext("basket")  # (which the end of the `with` has closed)
+
+    def test_operators(self) -> None:
+        """A lazy text takes what a str takes, and refuses what a str refuses."""
+        def results(it: Any) -> list[object]:
+            works: list[Callable[[Any, Any], object]] = [
+                operator.add, operator.mul, operator.lt, operator.le, operator.gt, operator.ge, operator.eq,
+                operator.ne, lambda one, two: two * one, lambda one, two: two + one]
+            return [said(lambda: work(it, other)) for other in (5, None, b"a", ["a"], "z", 2) for work in works]
+
+        lazy = kobdzila.lazy_gettext("basket")
+        for ours, theirs in zip(results(lazy), results("basket")):
+            if isinstance(ours, tuple) and isinstance(theirs, tuple):
+                self.assertIs(ours[0], theirs[0])
+            else:
+                self.assertEqual(ours, theirs)
+        self.assertEqual((2 * lazy, lazy * 2, lazy + lazy), ("basketbasket",) * 3)
+        self.assertFalse(lazy < lazy)
+        for protocol in range(pickle.HIGHEST_PROTOCOL + 1):
+            again = pickle.loads(pickle.dumps(kobdzila.lazy_npgettext("a", "b", "c", 2), protocol))
+            self.assertIs(type(again), kobdzila.LazyText)
+            self.assertEqual((repr(again), str(again)), ("lazy_npgettext('a', 'b', 'c', 2)", "c"))
+        self.assertEqual(repr(copy.deepcopy(lazy)), repr(lazy))
 
     def test_translations(self) -> None:
         """By default they are those of the context; any object with the four methods works."""

@@ -157,6 +157,14 @@ async def both():
 
 asyncio.run(both())
 assert get("en")[:2] == ["basket", "basket"] and get("de")[7] == "Ja"
+# what Django calls the catalogue is one of its class, with the texts that aren't of the store: a change of one counts
+from django.utils.translation import trans_real
+with translation.override("fr"):
+    own = trans_real.catalog()
+    assert isinstance(own, trans_real.DjangoTranslation) and own.language() == "fr" and repr(own).startswith("<live <Dj")
+    assert own._catalog["Yes"] == "Oui" and "basket" not in own._catalog and own.gettext("basket") == "panier"
+    own._catalog.update(type("More", (), {"_catalog": {"new": "nouveau"}, "plural": own.plural}))
+    assert gettext("new") == "nouveau", gettext("new")
 # a request has one version, whatever is published meanwhile, and another language in between
 assert get("fr", put="corbeille") == french("panier"), "a request has two versions"
 assert get("fr") == french("corbeille"), "the next request has the older version"
@@ -313,6 +321,19 @@ assert get("en")[:3] == ["basket"] * 3
 assert get("pt-BR")[:3] == ["cesta"] * 3
 with app.app_context():
     assert gettext("basket") == "corbeille"
+# the whole interface of Babel's translations
+from babel.support import NullTranslations
+with app.test_request_context(headers={"Accept-Language": "fr"}):
+    texts = (getattr(app.extensions["babel"], "instance", app.extensions["babel"]).domain_instance).get_translations()
+    assert isinstance(texts, NullTranslations) and texts.domain == "messages" and texts.files == []
+    assert texts.info()["language"] == "fr" and texts.charset() == "UTF-8" and texts.plural(2) == 1, texts.info()
+    assert texts.dgettext("messages", "basket") == texts.udgettext("messages", "basket") == "corbeille"
+    assert texts.dnpgettext("messages", "none", "a", "b", 2) == "b"
+    more = 'msgid "new"\nmsgstr "nouveau"\nmsgid "x"\nmsgid_plural "y"\nmsgstr[0] "z"\n'
+    more = kobdzila.Catalogue.from_po(more.encode())
+    texts.add_fallback(kobdzila.GNUTranslations(more.mo_file()))
+    assert (texts.gettext("new"), texts.ngettext("x", "y", 1), texts.gettext("basket")) == ("nouveau", "z", "corbeille")
+    assert (texts.pgettext("c", "new"), texts.npgettext("c", "x", "y", 2), texts.gettext("no")) == ("new", "y", "no")
 other = Flask("other")
 try:
     kobdzila.flask.init_app(other, store)

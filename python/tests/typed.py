@@ -30,11 +30,22 @@ def catalogues(path: Path) -> None:
         assert_type((refused.line, refused.fault, refused.text), tuple[int, kobdzila.Fault, str])
 
 
+class Own(kobdzila.GNUTranslations):
+    pass
+
+
 def folders(path: Path) -> None:
-    """Each function of the standard module that takes a folder takes it as a path, too."""
+    """Each function of the standard module that takes a folder also takes it as a path."""
     assert_type(kobdzila.bindtextdomain("shop", path), str)
     assert_type(kobdzila.find("shop", path), str | None)
-    assert_type(kobdzila.translation("shop", path, fallback=True), Any)
+    made = kobdzila.translation("shop", path)
+    assert_type(made, kobdzila.GNUTranslations)
+    made.getext("a")  # type: ignore[attr-defined]
+    assert_type(kobdzila.translation("shop", path, fallback=True), gettext.NullTranslations)
+    assert_type(kobdzila.translation("shop", path, class_=Own), Own)
+    assert_type(kobdzila.translation("shop", path, ["fr"], gettext.GNUTranslations), gettext.GNUTranslations)
+    assert_type(kobdzila.translation("shop", path, class_=Own, fallback=True), gettext.NullTranslations)
+    kobdzila.translation("shop", path, class_=print)  # type: ignore[type-var]
     kobdzila.install("shop", path)
 
 

@@ -125,7 +125,10 @@ _LATER = {
     "_web": ("ASGIMiddleware", "WSGIMiddleware"),
 }
 _MODULES = {name: module for module, names in _LATER.items() for name in names}
-_STATE = ("_localedirs", "_current_domain")  # what the standard module has, and programs set
+# what programs set, and read by the functions: names of the standard module, and names of _gettext
+_STATE = ("_localedirs", "_current_domain", "_default_localedir", "_expand_lang")
+_USED = ("_translations", "find", "GNUTranslations", "NullTranslations", "translation", "textdomain", "dgettext",
+         "dngettext", "dpgettext", "dnpgettext")
 
 
 def __getattr__(name: str) -> Any:
@@ -147,15 +150,28 @@ def __dir__() -> list[str]:
 
 
 class _Module(_ModuleType):
-    """The package in place of the module gettext, whose private names some programs set."""
+    """The package in place of the module gettext, of which some programs, and tests with mock, set names."""
 
     def __setattr__(self, name: str, value: Any) -> None:
-        if name in _STATE:
-            setattr(_standard, name, value)
-        elif name in ("_translations", "find"):
-            setattr(_gettext, name, value)
+        home = _home_of(name)
+        if home:
+            setattr(home, name, value)
         if name not in (*_STATE, "_translations"):
             super().__setattr__(name, value)
+
+    def __delattr__(self, name: str) -> None:
+        home = _home_of(name)
+        if home:
+            delattr(home, name)
+        if name in vars(self):
+            super().__delattr__(name)
+        elif not home:
+            raise AttributeError(name)
+
+
+def _home_of(name: str) -> _ModuleType | None:
+    """Return the module whose functions read a name that programs set, or None."""
+    return _standard if name in _STATE else _gettext if name in _USED else None
 
 
 _sys.modules[__name__].__class__ = _Module

@@ -2,6 +2,7 @@
 gettext."""
 from __future__ import annotations
 
+import copyreg
 import gettext as python_gettext
 import io
 import os
@@ -39,9 +40,10 @@ else:
 # a file whose system-dependent part is damaged.
 READ_BY_PYTHON = {Fault.MO_REVISION, Fault.MO_BAD_TEXT, Fault.MO_FORMS, Fault.MO_CHARSET}
 READ_BY_PYTHON |= {it for it in Fault if it.name.startswith("MO_DEPENDENT_")} | {Fault.MO_NO_CHARACTER}
-GERMANIC = "n != 1"  # the plural rule of a header without one
+GERMANIC = "n != 1"  # in place of a plural rule that is broken
 OWN_FRAMES = ("kobdzila", "gettext")  # a warning names the caller outside of them
 PRIVATE: Any = python_gettext  # what the module has besides its documented names
+CONTEXT = python_gettext.GNUTranslations.CONTEXT  # the key of a message in a context
 TEXTS_OF_PYTHON = {Fault.MO_MAGIC: "Bad magic number", Fault.MO_BOUNDS: "File is corrupt"}
 
 
@@ -95,24 +97,29 @@ class Catalogue(_kobdzila.Catalogue):
 
     def __copy__(self) -> Self:
         other = self._share()
-        other.__dict__.update(self.__dict__)
+        set_state(other, state_of(self))
         return other
 
     def __deepcopy__(self, memo: dict[int, Any]) -> Self:
         import copy
 
         other = memo[id(self)] = self._share()  # (the catalogue itself never changes)
-        other.__dict__.update(copy.deepcopy(self.__dict__, memo))
-        other._fallback = copy.deepcopy(self._fallback, memo)
+        if type(self)._fallback is Catalogue._fallback:
+            other._fallback = copy.deepcopy(self._fallback, memo)
+        set_state(other, copy.deepcopy(state_of(self), memo))
         return other
 
-    @cached_property
+    @property
     def plural(self) -> Callable[[int], int]:
         """The plural rule: the number of the form for `n`.
 
         >>> Catalogue.from_po(b'msgid "hi"\\nmsgstr "salut"\\n').plural(2)
         1
         """
+        return self._rule
+
+    @cached_property
+    def _rule(self) -> Callable[[int], int]:
         return rule_of(self._info)
 
     @cached_property
@@ -121,20 +128,19 @@ class Catalogue(_kobdzila.Catalogue):
 
     @cached_property
     def _charset(self) -> str | None:
-        _, found, charset = first_line(self._info.get("content-type", "")).partition("charset=")
-        return charset if found else None
+        return charset_in(self._info)
 
     def _other_number(self, context: str | None, key: str | None, msgid1: str, msgid2: str, n: Any) -> str:
         """Answer ngettext and npgettext for an `n` that isn't an int from 0 to 2**64 - 1, as the standard module does.
 
         `key` is the text of msgid1, or None if no text is equal to it.
         """
+        number = self.plural(n)  # (asked first: it may refuse `n`)
         forms = () if key is None else self.forms(key, context)
         if not forms and self._fallback is not None:
             words = (msgid1, msgid2, n) if context is None else (context, msgid1, msgid2, n)
             answer: str = getattr(self._fallback, "ngettext" if context is None else "npgettext")(*words)
             return answer
-        number = self.plural(n)
         if forms:
             return forms[number if 0 <= number < len(forms) else 0]
         return msgid1 if n == 1 else msgid2
@@ -233,6 +239,8 @@ class GNUTranslations(Catalogue, python_gettext.GNUTranslations):
     _dict_npgettext = python_gettext.GNUTranslations.npgettext
 
     def __init__(self, fp: Any = None) -> None:
+        if type(self)._fallback is not Catalogue._fallback:
+            self._fallback = None
         if fp is None:
             return
         if isinstance(fp, (str, os.PathLike)):
@@ -252,9 +260,20 @@ class GNUTranslations(Catalogue, python_gettext.GNUTranslations):
         self.__dict__["_texts"] = texts
         self._is_by_dict = True
 
+    @property
+    def plural(self) -> Callable[[int], int]:
+        """The plural rule: the number of the form for `n`. One that is set is used for all numbers."""
+        return self._rule
+
+    @plural.setter
+    def plural(self, rule: Callable[[int], int]) -> None:
+        self.__dict__["_rule"] = rule
+        if not self._is_by_dict:
+            self._catalog = self._catalog.copy()
+
     def _parse(self, fp: Any) -> None:
         data, name = fp.read(), getattr(fp, "name", "")
-        for known in ("_texts", "_info", "_charset", "plural"):  # (of a file that was opened before)
+        for known in ("_texts", "_info", "_charset", "_rule"):  # (of a file that was opened before)
             self.__dict__.pop(known, None)
         try:
             self._read_mo(data)
@@ -264,6 +283,16 @@ class GNUTranslations(Catalogue, python_gettext.GNUTranslations):
             self._read_by_python(data, name, refused)
         else:
             self._keep_header(header_in(data))
+            self._keep_overridden()
+
+    def _keep_overridden(self) -> None:
+        """Use what this class has in place of the standard one's names, which the look-ups in C don't ask."""
+        class_ = type(self)
+        is_plural = class_.plural is not GNUTranslations.plural
+        if is_plural or class_.CONTEXT != CONTEXT or class_._fallback is not Catalogue._fallback:
+            self._catalog = self._catalog.copy()
+        if is_plural:
+            self.plural = self._rule  # (as the standard class sets it, whatever it is)
 
     def _keep_header(self, header: bytes) -> None:
         """Keep the header of a file in another charset as the file has it; the library's says that it is UTF-8."""
@@ -287,6 +316,29 @@ class GNUTranslations(Catalogue, python_gettext.GNUTranslations):
         self._catalog = vars(reader)["_catalog"]
         self._info, self._charset = reader.info(), reader.charset()
         self.plural = with_own_warning(vars(reader)["plural"])
+
+
+def state_of(it: Catalogue) -> Any:
+    """Return the state of an object that the module copy copies: what its class's `__getstate__` says, or else its
+    attributes, with those of `__slots__` as a second part."""
+    chosen = getattr(type(it), "__getstate__", None)
+    if chosen is not getattr(object, "__getstate__", None):  # (which came with Python 3.11)
+        return chosen(it)  # type: ignore[misc]
+    names = getattr(copyreg, "_slotnames")(type(it))
+    slots = {name: getattr(it, name) for name in names if hasattr(it, name)}
+    return (it.__dict__, slots) if slots else it.__dict__
+
+
+def set_state(it: Catalogue, state: Any) -> None:
+    """Set the state of a new object, as the module copy does."""
+    chosen = getattr(it, "__setstate__", None)
+    if chosen:
+        chosen(state)
+        return
+    attributes, slots = state if isinstance(state, tuple) and len(state) == 2 else (state, None)
+    it.__dict__.update(attributes or {})
+    for name, value in (slots or {}).items():
+        setattr(it, name, value)
 
 
 def header_in(data: bytes) -> bytes:
@@ -315,10 +367,21 @@ def fields_of(header: str) -> dict[str, str]:
     return fields
 
 
+def charset_in(fields: dict[str, str]) -> str | None:
+    """Return the charset that a header's fields name, or None."""
+    _, found, charset = first_line(fields.get("content-type", "")).partition("charset=")
+    return charset if found else None
+
+
 def rule_of(fields: dict[str, str]) -> Callable[[int], int]:
-    """Return the plural rule of a header's fields. A rule that is broken or missing is `n != 1`."""
+    """Return the plural rule of a header's fields. A rule that is broken or missing is `n != 1`. As in the standard
+    gettext, one that is missing takes an `n` of any type."""
     _, found, rule = first_line(fields.get("plural-forms", "")).partition("plural=")
-    return _rule(rule.partition(";")[0] if found else GERMANIC)
+    return _rule(rule.partition(";")[0]) if found else germanic
+
+
+def germanic(n: object) -> int:
+    return int(n != 1)
 
 
 @lru_cache(64)

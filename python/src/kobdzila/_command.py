@@ -2,6 +2,7 @@
 from __future__ import annotations
 
 import argparse
+import contextlib
 import os
 import re
 import sys
@@ -14,10 +15,11 @@ from ._processes import Ended
 
 TYPE_CHECKING = False
 if TYPE_CHECKING:
-    from typing import Any
+    from typing import Any, TextIO
 
     Listed = os.DirEntry[str]
 
+PROGRAM = "python -m kobdzila"
 FOLDER, END, END_OF_MO = "LC_MESSAGES", ".po", ".mo"
 WIDTH, PAUSE = 30, 0.05  # of the progress bar: its columns, and the seconds between two pictures of it
 EPILOG = """\
@@ -38,7 +40,7 @@ class Usage(Exception):
 
 def main(words: Sequence[str] | None = None) -> int:
     """Run a command and return its status: 0, 1 if a file was refused, or 2 for wrong options."""
-    parser = argparse.ArgumentParser(prog="python -m kobdzila", description="Message catalogues of GNU gettext.")
+    parser = argparse.ArgumentParser(prog=PROGRAM, description="Message catalogues of GNU gettext.")
     parser.add_argument("--version", action="version", version=f"kobdzila {_kobdzila.version}")
     command = add_compile(parser.add_subparsers(dest="command", required=True, metavar="compile", prog=parser.prog))
     asked = parser.parse_args(words)
@@ -49,8 +51,8 @@ def main(words: Sequence[str] | None = None) -> int:
     try:
         return run(jobs, asked)
     except Ended:
-        print(f"{parser.prog}: a process that compiled was ended from outside: if memory ran out, try --jobs 1",
-              file=sys.stderr)
+        why = "a process that compiled was ended from outside: if memory ran out, try --jobs 1"
+        printed(sys.stderr, [f"{PROGRAM}: {why}"])
         return 1
     except KeyboardInterrupt:
         return 130
@@ -84,10 +86,14 @@ def add_compile(commands: Any) -> argparse.ArgumentParser:
 
 
 def jobs_of(asked: argparse.Namespace) -> Iterator[Job]:
-    """Yield the jobs that the options name. Usage if there are none."""
+    """Yield the jobs that the options name. Usage if there are none, or if an option would be ignored."""
+    if asked.jobs < 1:
+        raise Usage("-j takes a number of files from 1 on")
     if asked.output_file or asked.input_file and asked.directory:
         return iter([named_job(asked)])
     if asked.files:
+        refuse_options(asked, "are for folders, and not for FILE.po", "directory", "domain", "locale", "exclude",
+                       "input_file", "ignore")
         return (Job(path, f"{os.path.splitext(path)[0]}.mo") for path in asked.files)
     found = list(jobs_in(folders_of(asked), asked))
     if not found:
@@ -96,17 +102,25 @@ def jobs_of(asked: argparse.Namespace) -> Iterator[Job]:
     return iter(found)
 
 
+def refuse_options(asked: argparse.Namespace, why: str, *names: str) -> None:
+    """Raise Usage if one of these options was given."""
+    given = ["--" + name.replace("_", "-") for name in names if getattr(asked, name)]
+    if given:
+        raise Usage(f"{' and '.join(given)} {why}")
+
+
 def named_job(asked: argparse.Namespace) -> Job:
     """Return the job of pybabel's -i."""
-    inputs = asked.input_file or asked.files
+    inputs = [*asked.input_file, *asked.files]
     if len(inputs) != 1:
-        raise Usage("-o is for one PO file: name it with -i FILE")
+        raise Usage("-o, or -i with -d, is for one PO file: name it with -i FILE")
+    refuse_options(asked, "are for folders, and not for one file", "exclude", "ignore")
     if asked.output_file:
         return Job(inputs[0], asked.output_file)
-    if len(asked.locale) != 1:
-        raise Usage("-i and -d name the MO file with one -l LOCALE, or give its name with -o FILE")
-    domain = (domains_of(asked.domain) or ["messages"])[0]
-    return Job(inputs[0], os.path.join(asked.directory, asked.locale[0], FOLDER, f"{domain}.mo"))
+    domains = domains_of(asked.domain) or ["messages"]
+    if len(asked.locale) != 1 or len(domains) != 1:
+        raise Usage("-i and -d name the MO file with one -l LOCALE and one -D DOMAIN, or give its name with -o FILE")
+    return Job(inputs[0], os.path.join(asked.directory, asked.locale[0], FOLDER, f"{domains[0]}.mo"))
 
 
 def domains_of(words: Iterable[str]) -> list[str]:
@@ -167,8 +181,9 @@ def paths_of_django() -> list[str]:
     try:
         settings: Any = getattr(importlib.import_module("django.conf"), "settings")
         return [os.fspath(it) for it in settings.LOCALE_PATHS]
-    except ImportError as fault:
-        raise Usage(f"DJANGO_SETTINGS_MODULE is set, and its settings can't be read: {fault}") from None
+    except Exception as fault:  # (the settings are a program, which may raise any)
+        why = f"{type(fault).__name__}: {fault}"
+        raise Usage(f"DJANGO_SETTINGS_MODULE is set, and its settings can't be read: {why}") from None
 
 
 def jobs_in(folders: Iterable[str], asked: argparse.Namespace) -> Iterator[Job]:
@@ -227,23 +242,50 @@ def run(jobs: Sequence[Job], asked: argparse.Namespace) -> int:
     finally:
         bar.clear()
     done.sort()
-    report(done, asked)
-    return 1 if any(it.fault for it in done) else 0
+    is_told = report(done, asked)
+    return 0 if is_told and not any(it.fault for it in done) else 1
 
 
-def report(done: Sequence[Done], asked: argparse.Namespace) -> None:
-    """Print what was requested to standard output, and then all refusals to standard error."""
+def report(done: Sequence[Done], asked: argparse.Namespace) -> bool:
+    """Print what was requested to standard output, and then all refusals to standard error. Return whether that was
+    possible."""
     refused = [it for it in done if it.fault]
+    lines, refusals = [], list(map(str, refused))
     for it in done:
         if it.counts and not it.fault:
-            print(f"{it.counts} in {it.job.po}")
+            lines.append(f"{it.counts} in {it.job.po}")
         elif asked.verbose and not it.fault:
-            print(f"{it.job.po}: accepted" if asked.dry_run else f"{it.job.po} -> {it.job.mo}")
+            lines.append(f"{it.job.po}: accepted" if asked.dry_run else f"{it.job.po} -> {it.job.mo}")
     if not asked.quiet:
         verb = "checked" if asked.dry_run else "compiled"
-        print(f"{len(done) - len(refused)} {'file' if len(done) - len(refused) == 1 else 'files'} {verb}", flush=True)
-    for it in refused:
-        print(it, file=sys.stderr)
+        lines.append(f"{len(done) - len(refused)} {'file' if len(done) - len(refused) == 1 else 'files'} {verb}")
     if refused and not asked.quiet:
         stay = "" if asked.dry_run else "; their MO files stay as they were"
-        print(f"{len(refused)} of {len(done)} files refused{stay}", file=sys.stderr)
+        refusals.append(f"{len(refused)} of {len(done)} files refused{stay}")
+    fault = printed(sys.stdout, lines)
+    if fault and not isinstance(fault, BrokenPipeError):
+        refusals.append(f"{PROGRAM}: can't write to standard output: {fault.strerror}")
+    return not printed(sys.stderr, refusals) and not fault
+
+
+def printed(stream: TextIO | None, lines: Iterable[str]) -> OSError | None:
+    """Print lines, if the stream isn't closed, and return why that failed, or None.
+
+    What its encoding doesn't have, such as a part of a file's name, is escaped.
+    """
+    if stream is None:
+        return None
+    try:
+        for line in lines:
+            try:
+                print(line, file=stream)
+            except UnicodeEncodeError:
+                print(line.encode(stream.encoding, "backslashreplace").decode(stream.encoding), file=stream)
+        stream.flush()
+    except OSError as fault:
+        with contextlib.suppress(OSError):  # (or else Python writes the rest at its end, and fails again)
+            file = os.open(os.devnull, os.O_WRONLY)
+            os.dup2(file, stream.fileno())
+            os.close(file)
+        return fault
+    return None

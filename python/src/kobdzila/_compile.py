@@ -3,6 +3,7 @@ from __future__ import annotations
 
 import os
 import re
+import stat
 from collections import namedtuple
 from collections.abc import Iterator, Sequence
 
@@ -80,7 +81,7 @@ def compiled(data: _kobdzila.Buffer, checked: bool, use_fuzzy: bool) -> Catalogu
     if checked:
         from ._formats import first_mismatch
 
-        wrong = first_mismatch(bytes(data), lambda: catalogue.plural, use_fuzzy)
+        wrong = first_mismatch(bytes(data), use_fuzzy)
         if wrong:
             raise Refused(Fault.PO_FORMAT_MISMATCH, wrong.line, wrong.text)
     return catalogue
@@ -157,17 +158,26 @@ def compile_file(job: Job, options: Options) -> Done:
 
 
 def replace(path: str, data: bytes) -> None:
-    """Replace a file in one step."""
+    """Write a file. A new or regular one is replaced in one step, also by a link to it, and keeps its mode. A pipe or a
+    device is written as it is."""
+    try:
+        old = os.stat(path)
+    except FileNotFoundError:
+        old = None
+    if old is None or stat.S_ISREG(old.st_mode):
+        replace_regular(os.path.realpath(path) if os.path.islink(path) else path, data, old)
+    else:
+        write_all(os.open(path, os.O_WRONLY | os.O_CLOEXEC | os.O_NOCTTY), data)
+
+
+def replace_regular(path: str, data: bytes, old: os.stat_result | None) -> None:
     folder, name = os.path.split(path)
     new = os.path.join(folder, f".{name}.{os.getpid()}.new")
     try:
-        file = os.open(new, os.O_WRONLY | os.O_CREAT | os.O_EXCL | os.O_CLOEXEC, 0o666)
-        try:
-            rest = memoryview(data)
-            while rest:
-                rest = rest[os.write(file, rest):]
-        finally:
-            os.close(file)
+        mode = 0o666 if old is None else 0o600  # (the latter until it has that of the old file)
+        write_all(os.open(new, os.O_WRONLY | os.O_CREAT | os.O_EXCL | os.O_CLOEXEC, mode), data)
+        if old is not None:
+            dress(new, old)
         os.replace(new, path)
     except BaseException:
         try:
@@ -175,6 +185,37 @@ def replace(path: str, data: bytes) -> None:
         except OSError:
             pass
         raise
+
+
+def dress(path: str, old: os.stat_result) -> None:
+    """Give a file the owner, the group and the mode of the one that it replaces, as far as this process may."""
+    now, mode = os.stat(path), stat.S_IMODE(old.st_mode)
+    if (now.st_uid, now.st_gid) != (old.st_uid, old.st_gid):
+        try:
+            os.chown(path, old.st_uid, old.st_gid)
+        except OSError:
+            mode = mode_without_owner(path, old, mode & 0o777)
+    os.chmod(path, mode)
+
+
+def mode_without_owner(path: str, old: os.stat_result, mode: int) -> int:
+    """Give a file the group of the one that it replaces. If this process may not, the new group may do what everybody
+    may."""
+    try:
+        os.chown(path, -1, old.st_gid)
+    except OSError:
+        return mode & (0o707 | (mode & 0o7) << 3)
+    return mode
+
+
+def write_all(file: int, data: bytes) -> None:
+    """Write an open file, and close it."""
+    try:
+        rest = memoryview(data)
+        while rest:
+            rest = rest[os.write(file, rest):]
+    finally:
+        os.close(file)
 
 
 def counts_of(data: bytes, use_fuzzy: bool, catalogue: Catalogue) -> Counts:

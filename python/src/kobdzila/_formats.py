@@ -1,14 +1,14 @@
 """The checks of `msgfmt -c` for messages with the flags python-format and python-brace-format.
 
-Only the PO file has these flags, so it is scanned for them once it is known to compile.
+The library finds what is wrong. Of an entry at fault the reason is said in words here.
 """
 from __future__ import annotations
 
 import re
-from collections.abc import Callable, Iterator
-from functools import lru_cache
 from string import Formatter
 from typing import NamedTuple
+
+from . import _kobdzila
 
 STRING = rb'(?:\s*"(?:[^"\\\n]|\\.)*")+'
 # a flag, up to the strings of its entry
@@ -22,18 +22,15 @@ FORM = re.compile(rb"msgstr(?:[ \t]*\[\s*\d+\s*\])?(" + STRING + rb")")
 PIECE = re.compile(rb'"((?:[^"\\\n]|\\.)*)"')
 ESCAPE = re.compile(rb"\\(?:([0-7]{1,3})|(.))", re.S)
 ESCAPED = {b"n": b"\n", b"t": b"\t", b"b": b"\b", b"r": b"\r", b"f": b"\f", b"v": b"\v", b"a": b"\a"}
-DIRECTIVE = re.compile(r"%(?:\((?P<name>[^()]*)\))?[-#0 +]*(?P<width>\*|\d+)?(?:\.(?P<precision>\*|\d*))?[hlL]?(?P<kind>.)?",
-                       re.S)
-OFTEN = 5
+DIRECTIVE = re.compile(
+    r"%(?:\((?P<name>(?:[^()]|\([^()]*\))*)\))?[-#0 +]*(?P<width>\*|\d+)?(?:\.(?P<precision>\*|\d*))?"
+    r"[hlL]?(?P<kind>.)?",
+    re.S)
 KINDS = {**dict.fromkeys("diouxX", "an integer"), **dict.fromkeys("eEfFgG", "a number"), "c": "a character",
          **dict.fromkeys("sra", "a text"), "%": "a percent sign"}
 
 
-Rule = Callable[[int], int]  # the number of the plural form for n
-
-# directives as they are written, and what may hide one
-WRITTEN = re.compile(rb"%(?:\([^()]*\))?[-#0 +]*[\d*]*(?:\.[\d*]*)?[hlL]?.", re.S)
-OCTAL = re.compile(rb"\\[0-7]")
+PYTHON_FORMAT, PYTHON_BRACE_FORMAT = 2, 3  # (enum kob_format_language)
 
 
 class Mismatch(NamedTuple):
@@ -50,70 +47,54 @@ class Arguments(NamedTuple):
     unnamed: list[str]
 
 
-def first_mismatch(data: bytes, rule: Callable[[], Rule], use_fuzzy: bool) -> Mismatch | None:
+def first_mismatch(data: bytes, use_fuzzy: bool) -> Mismatch | None:
     """Return the first entry of a PO file whose translation takes other arguments than its message, or None.
 
-    `rule` returns the file's plural rule. The file must compile.
+    The file must compile.
     """
     if b"python-" not in data:
         return None
-    return next(mismatches(data, rule, use_fuzzy), None)
+    for line, language, form, _ in _kobdzila.format_faults(data, use_fuzzy):
+        if language in (PYTHON_FORMAT, PYTHON_BRACE_FORMAT):
+            return described(data, line, language, form)
+    return None
 
 
-def mismatches(data: bytes, rule: Callable[[], Rule], use_fuzzy: bool) -> Iterator[Mismatch]:
-    for entry in FLAGGED.finditer(data):
-        said = [line.lstrip()[2:] for line in entry["comments"].split(b"\n") if line.lstrip().startswith(b"#,")]
-        flags = {flag.strip() for line in (entry["flags"], *said) for flag in line.split(b",")}
-        if b"fuzzy" in flags and not use_fuzzy:
-            continue
-        for flag, arguments_of in ((b"python-format", percents), (b"python-brace-format", braces)):
-            if flag not in flags or flag == b"python-format" and is_alike(entry):
-                continue
-            wrong = wrong_form(entry, arguments_of, rule)
-            if wrong:
-                yield Mismatch(data.count(b"\n", 0, entry.start("id")) + 1, wrong)
-
-
-def is_alike(entry: re.Match[bytes]) -> bool:
-    """Return whether all forms have the message's `%` directives, spelled alike. Most translations do."""
-    if OCTAL.search(entry[0]):
-        return False
-    wanted = WRITTEN.findall(entry["plural"] or entry["id"])
-    if len(wanted) > 1 and not all(it.startswith((b"%(", b"%%")) for it in wanted):
-        return all(WRITTEN.findall(form) == wanted for form in FORM.findall(entry["forms"]))
-    wanted.sort()
-    return all(sorted(WRITTEN.findall(form)) == wanted for form in FORM.findall(entry["forms"]))
-
-
-def wrong_form(entry: re.Match[bytes], arguments_of: Callable[[str], Arguments], rule: Callable[[], Rule]) -> str:
-    """Return what is wrong with the first form that doesn't match, or ""."""
+def described(data: bytes, line: int, language: int, number: int) -> Mismatch:
+    """Return what is wrong with a form, with the line of its entry. `line` is that of the first msgstr."""
+    entry = entry_at(data, line)
+    form = FORM.findall(entry["forms"])[number:number + 1] if entry else []
+    if not entry or not form:
+        return Mismatch(line, "msgstr takes other arguments than the message")
     plural = entry["plural"]
-    raw = plural or entry["id"]
+    name = f"msgstr[{number}]" if plural else "msgstr"
+    why = difference(text_of(plural or entry["id"]), text_of(form[0]), language == PYTHON_BRACE_FORMAT)
+    return Mismatch(data.count(b"\n", 0, entry.start("id")) + 1, f"{name} {why}")
+
+
+def entry_at(data: bytes, line: int) -> re.Match[bytes] | None:
+    """Return the entry whose first msgstr is on a line, or None."""
+    for entry in FLAGGED.finditer(data):
+        if data.count(b"\n", 0, entry.start("forms")) + 1 == line:
+            return entry
+    return None
+
+
+def difference(message: str, form: str, has_braces: bool) -> str:
+    """Return in what a form that is at fault differs from its message."""
+    arguments_of = braces if has_braces else percents
     try:
-        wanted = arguments_of(text_of(raw))
+        found = arguments_of(form)
+    except ValueError as fault:
+        return str(fault)
+    try:
+        return difference_of(arguments_of(message), found) or "takes other arguments than the message"
     except ValueError:
-        return ""  # (the message is no such format, so nothing can be asked of its translation)
-    forms = FORM.findall(entry["forms"])
-    for number, form in enumerate(forms):
-        text = text_of(form)
-        name = f"msgstr[{number}]" if plural else "msgstr"
-        if not text:
-            continue
-        try:
-            found = arguments_of(text)
-        except ValueError as fault:
-            return f"{name} {fault}"
-        wrong = difference(wanted, found, lambda: plural is not None and not is_often(rule(), number))
-        if wrong:
-            return f"{name} {wrong}"
-    return ""
+        return "takes other arguments than the message"
 
 
-def difference(wanted: Arguments, found: Arguments, may_lack: Callable[[], bool]) -> str:
-    """Return what is wrong with `found`, or "". A form that isn't used often, such as the one for 1, may lack
-    arguments."""
-    if found == wanted:
-        return ""
+def difference_of(wanted: Arguments, found: Arguments) -> str:
+    """Return what is wrong with `found`, or ""."""
     if wanted.named and found.unnamed or wanted.unnamed and found.named:
         return "takes its arguments by name, and the message doesn't" if found.named else (
             "takes its arguments by position, and the message by name")
@@ -129,13 +110,7 @@ def difference(wanted: Arguments, found: Arguments, may_lack: Callable[[], bool]
             return f"takes {kind} as argument {number}, and the message {other}"
     lacking = [f"'{name}'" for name in wanted.named if name not in found.named]
     lacking += [f"argument {len(found.unnamed) + 1}"] if len(found.unnamed) < len(wanted.unnamed) else []
-    return f"doesn't take {lacking[0]}, which the message does" if lacking and not may_lack() else ""
-
-
-@lru_cache(256)
-def is_often(rule: Rule, form: int) -> bool:
-    """Return whether five or more of the numbers up to 1000 select a form, which is what GNU msgfmt calls often."""
-    return sum(rule(n) == form for n in range(1001)) >= OFTEN
+    return f"doesn't take {lacking[0]}, which the message does" if lacking else ""
 
 
 def percents(text: str) -> Arguments:

@@ -14,11 +14,37 @@ from ._catalogue import PRIVATE, GNUTranslations, warn_of
 TYPE_CHECKING = False
 if TYPE_CHECKING:
     from collections.abc import Callable, Container, Iterable
-    from typing import Any
+    from io import BufferedReader
+    from typing import Any, Literal, TypeVar, overload
+
+    AnyTranslations = TypeVar("AnyTranslations", bound=NullTranslations)
 
 _translations: dict[tuple[Callable[[Any], Any], str], Any] = {}
 _chains: dict[tuple[str, ...], tuple[list[Any], Any]] = {}  # by the names of files: those of _translations, and a chain
 _localedirs: dict[str, str] = PRIVATE._localedirs
+
+
+if TYPE_CHECKING:
+    @overload
+    def translation(
+        domain: str, localedir: str | os.PathLike[str] | None = None, languages: Iterable[str] | None = None,
+        class_: None = None, fallback: Literal[False] = False,
+    ) -> GNUTranslations: ...
+    @overload
+    def translation(
+        domain: str, localedir: str | os.PathLike[str] | None = None, languages: Iterable[str] | None = None, *,
+        class_: Callable[[BufferedReader], AnyTranslations], fallback: Literal[False] = False,
+    ) -> AnyTranslations: ...
+    @overload
+    def translation(
+        domain: str, localedir: str | os.PathLike[str] | None, languages: Iterable[str] | None,
+        class_: Callable[[BufferedReader], AnyTranslations], fallback: Literal[False] = False,
+    ) -> AnyTranslations: ...
+    @overload
+    def translation(
+        domain: str, localedir: str | os.PathLike[str] | None = None, languages: Iterable[str] | None = None,
+        class_: Callable[[BufferedReader], NullTranslations] | None = None, fallback: bool = False,
+    ) -> NullTranslations: ...
 
 
 def translation(
@@ -105,6 +131,11 @@ class _Untranslated(NullTranslations):
 
 def _translations_of(domain: str) -> Any:
     """Return the translations of a text domain, only for look-ups: they are shared."""
+    if translation is not Catalog:  # (a program has set another function)
+        try:
+            return translation(domain, PRIVATE._localedirs.get(domain))
+        except OSError:
+            return _Untranslated()
     names = tuple(find(domain, PRIVATE._localedirs.get(domain), all=True))
     try:
         found = [_opened(GNUTranslations, name) for name in names]

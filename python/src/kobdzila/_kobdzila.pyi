@@ -8,6 +8,8 @@ Buffer = bytes | bytearray | memoryview
 
 version: str
 
+def format_faults(data: bytes, use_fuzzy: bool, /) -> list[tuple[int, int, int, int]]: ...
+
 class Catalogue:
     _fallback: Any
     _is_by_dict: bool

@@ -5,7 +5,7 @@ from collections.abc import Callable, Iterator
 from contextlib import contextmanager
 from contextvars import ContextVar
 from gettext import NullTranslations
-from typing import TYPE_CHECKING, Any, Protocol
+from typing import TYPE_CHECKING, Any, Protocol, TypeVar
 
 from . import _kobdzila
 
@@ -23,6 +23,7 @@ class Texts(Protocol):
     def npgettext(self, context: str, msgid1: str, msgid2: str, n: int) -> str: ...
 
 
+Answer = TypeVar("Answer")
 NO_TEXTS = NullTranslations()
 current_snapshot: ContextVar[Texts] = ContextVar("kobdzila.current_snapshot")
 """The snapshot of the request, the task or the thread that runs. WSGIMiddleware, ASGIMiddleware, kobdzila.flask and
@@ -112,13 +113,15 @@ class LazyText:
         return part
 
     def __add__(self, other: Any) -> str:
-        return str(self) + str(other)
+        return self._by(lambda own, text: own + text, other)
 
-    def __radd__(self, other: str) -> str:
-        return other + str(self)
+    def __radd__(self, other: Any) -> str:
+        return self._by(lambda own, text: text + own, other)
 
     def __mul__(self, times: int) -> str:
         return str(self) * times
+
+    __rmul__ = __mul__
 
     def __mod__(self, values: Any) -> str:
         text: str = str(self) % values
@@ -131,16 +134,25 @@ class LazyText:
         return str(self) == (str(other) if isinstance(other, LazyText) else other)
 
     def __lt__(self, other: Any) -> bool:
-        return str(self) < str(other)
+        return self._by(str.__lt__, other)
 
     def __le__(self, other: Any) -> bool:
-        return str(self) <= str(other)
+        return self._by(str.__le__, other)
 
     def __gt__(self, other: Any) -> bool:
-        return str(self) > str(other)
+        return self._by(str.__gt__, other)
 
     def __ge__(self, other: Any) -> bool:
-        return str(self) >= str(other)
+        return self._by(str.__ge__, other)
+
+    def _by(self, work: Callable[[str, str], Answer], other: object) -> Answer:
+        """Return what an operator answers for another text. With anything else it isn't implemented, as for a str."""
+        if not isinstance(other, (str, LazyText)):
+            return NotImplemented
+        return work(str(self), str(other) if isinstance(other, LazyText) else other)
+
+    def __reduce__(self) -> tuple[Any, ...]:
+        return type(self), (self._call, self._words)
 
 
 def lazy_gettext(message: str) -> LazyText:

@@ -78,11 +78,8 @@ class Snapshot(_kobdzila.Snapshot, Closing):
 
         `key` is the text of msgid1, or None if no text is equal to it.
         """
-        found = None if key is None else self._by_rule(domain, self.languages, key, context, n)
-        if found is not None:
-            return found
-        rule_in("")(n)
-        return msgid1 if n == 1 else msgid2
+        found = self._by_rule(domain, self.languages, key, context, n)
+        return found if found is not None else msgid1 if n == 1 else msgid2
 
     def _counted(self, domain: str, languages: str, message: str, context: str | None, n: Any) -> str | None:
         """Return the plural form for any `n` in languages that are the same str object at each call, or None."""
@@ -90,12 +87,15 @@ class Snapshot(_kobdzila.Snapshot, Closing):
             return self._recall(domain, languages, message, context, n)
         return self._by_rule(domain, languages, message, context, n)
 
-    def _by_rule(self, domain: str, languages: str, message: str, context: str | None, n: Any) -> str | None:
-        """Return the plural form that Python's rule chooses, or None if there is no translation."""
+    def _by_rule(self, domain: str, languages: str, message: str | None, context: str | None, n: Any) -> str | None:
+        """Return the plural form that Python's rule chooses, or None if there is no translation.
+
+        Each catalogue's rule is asked in turn, also without a message: it may refuse `n`.
+        """
         for locale in languages.split(":"):
-            if self.find(domain, locale, message, context) is not None:
-                rule = rule_in(self.find(domain, locale, "") or "")
-                number = rule(n)
+            rule = rule_in(self.find(domain, locale, "") or "")
+            number = rule(n)
+            if message is not None and self.find(domain, locale, message, context) is not None:
                 same = next((other for other in range(MANY) if rule(other) == number), 0)
                 return self.find(domain, locale, message, context, same)
         return None

@@ -15,11 +15,15 @@ the locale that Flask-Babel has chosen, and in no file. So do kobdzila's own laz
 """
 from __future__ import annotations
 
+from collections.abc import Callable
+from functools import cached_property
 from typing import Any
 
 import flask
 import flask_babel
+from babel.support import NullTranslations
 
+from ._catalogue import charset_in, fields_of, rule_of
 from ._languages import names_of
 from ._lazy import current_snapshot
 from ._store import Snapshot, Store
@@ -98,34 +102,72 @@ def _close(fault: BaseException | None) -> None:
         snapshot.close()
 
 
-class Translations:
-    """Look-ups in a snapshot, by the names that Flask-Babel and Babel call."""
+class Translations(NullTranslations):  # type: ignore[misc]
+    """Look-ups in a snapshot, with the interface of Babel's translations.
+
+    Flask-Babel gets one for each look-up, so what it rarely asks for is made when it is read.
+    """
+
+    _fallback: Any = None
+    _output_charset = None  # (which lgettext of Python 3.10 reads)
 
     def __init__(self, snapshot: Snapshot, domain: str, locale: Any) -> None:
-        self._snapshot, self._domain = snapshot, domain
+        self._snapshot, self.domain = snapshot, domain
         self._locales = "" if locale is None else _locales_of(str(locale))
 
     def gettext(self, message: str) -> str:
         """Return the translation of `message`."""
-        found = self._snapshot._recall(self._domain, self._locales, message)
-        return message if found is None else found
+        found = self._snapshot._recall(self.domain, self._locales, message)
+        return found if found is not None else self._missed("gettext", message, message)
 
     def pgettext(self, context: str, message: str) -> str:
         """Return the translation of `message` in `context`."""
-        found = self._snapshot._recall(self._domain, self._locales, message, context)
-        return message if found is None else found
+        found = self._snapshot._recall(self.domain, self._locales, message, context)
+        return found if found is not None else self._missed("pgettext", message, context, message)
 
     def ngettext(self, msgid1: str, msgid2: str, n: Any) -> str:
         """Return the plural form for `n`."""
-        found = self._snapshot._counted(self._domain, self._locales, msgid1, None, n)
-        return found if found is not None else msgid1 if n == 1 else msgid2
+        found = self._snapshot._counted(self.domain, self._locales, msgid1, None, n)
+        return found if found is not None else self._missed("ngettext", msgid1 if n == 1 else msgid2, msgid1, msgid2, n)
 
     def npgettext(self, context: str, msgid1: str, msgid2: str, n: Any) -> str:
         """Return the plural form for `n` of a message in `context`."""
-        found = self._snapshot._counted(self._domain, self._locales, msgid1, context, n)
-        return found if found is not None else msgid1 if n == 1 else msgid2
+        found = self._snapshot._counted(self.domain, self._locales, msgid1, context, n)
+        own = msgid1 if n == 1 else msgid2
+        return found if found is not None else self._missed("npgettext", own, context, msgid1, msgid2, n)
+
+    def _missed(self, call: str, own: str, *words: Any) -> str:
+        """Return the fallback's answer, or `own` if there is no fallback."""
+        answer: str = getattr(self._fallback, call)(*words) if self._fallback else own
+        return answer
 
     ugettext, ungettext, upgettext, unpgettext = gettext, ngettext, pgettext, npgettext
+
+    @cached_property
+    def _info(self) -> dict[str, str]:
+        return fields_of(self._snapshot.find(self.domain, self._locales, "") or "")
+
+    @cached_property
+    def _charset(self) -> str | None:
+        return charset_in(self._info)
+
+    @cached_property
+    def plural(self) -> Callable[[int], int]:
+        """The plural rule of the first catalogue."""
+        return rule_of(self._info)
+
+    @cached_property
+    def files(self) -> list[str]:
+        """The files that Babel has read: none."""
+        return []
+
+    @cached_property
+    def _catalog(self) -> dict[Any, Any]:
+        return {}
+
+    @cached_property
+    def _domains(self) -> dict[str, Any]:
+        return {}
 
 
 _known: dict[str, str] = {}

@@ -135,53 +135,35 @@ pub const KOB_FORMAT_INVALID: c_uint = 0;
 pub const KOB_FORMAT_ARGUMENTS: c_uint = 1;
 pub const KOB_FORMAT_UNREAD: c_uint = 2;
 
-/// An opaque type of C: its size isn't known to Rust, and only the library makes and frees it.
-#[repr(C)]
-pub struct kob_catalogue {
-    _opaque: [u8; 0],
-    _not_sent: PhantomData<*mut u8>,
+/// Declares opaque types of C: their sizes aren't known to Rust, and only the library makes and frees them.
+macro_rules! opaque {
+    ($($(#[$documentation:meta])* $name:ident;)+) => {
+        $(
+            $(#[$documentation])*
+            #[repr(C)]
+            pub struct $name {
+                _opaque: [u8; 0],
+                _not_sent: PhantomData<*mut u8>,
+            }
+        )+
+    };
 }
 
-/// An opaque type of C, like [`kob_catalogue`].
-#[repr(C)]
-pub struct kob_set {
-    _opaque: [u8; 0],
-    _not_sent: PhantomData<*mut u8>,
-}
-
-/// An opaque type of C, like [`kob_catalogue`].
-#[repr(C)]
-pub struct kob_store {
-    _opaque: [u8; 0],
-    _not_sent: PhantomData<*mut u8>,
-}
-
-/// An opaque type of C, like [`kob_catalogue`].
-#[repr(C)]
-pub struct kob_reader {
-    _opaque: [u8; 0],
-    _not_sent: PhantomData<*mut u8>,
-}
-
-/// An opaque type of C, like [`kob_catalogue`].
-#[repr(C)]
-pub struct kob_notice {
-    _opaque: [u8; 0],
-    _not_sent: PhantomData<*mut u8>,
-}
-
-/// An opaque type of C, like [`kob_catalogue`].
-#[repr(C)]
-pub struct kob_po_file {
-    _opaque: [u8; 0],
-    _not_sent: PhantomData<*mut u8>,
-}
-
-/// An opaque type of C, like [`kob_catalogue`].
-#[repr(C)]
-pub struct kob_format_faults {
-    _opaque: [u8; 0],
-    _not_sent: PhantomData<*mut u8>,
+opaque! {
+    /// A catalogue, opened by [`kob_open_mo`], [`kob_open_po`] or [`kob_open_file`].
+    kob_catalogue;
+    /// A set of catalogues, which never changes.
+    kob_set;
+    /// A live store.
+    kob_store;
+    /// A reader of a live store.
+    kob_reader;
+    /// A notice of what was published in a live store.
+    kob_notice;
+    /// The PO text of a catalogue, or a PO text in UTF-8.
+    kob_po_file;
+    /// The faults of the formats in a PO text.
+    kob_format_faults;
 }
 
 #[repr(C)]

@@ -138,24 +138,21 @@ def _snapshot(store: Store) -> Snapshot:
     return found
 
 
-class _Own(trans_real.DjangoTranslation):  # type: ignore[misc]
-    """What Django itself reads for a language, without the folders of the stores."""
-
-    def _add_local_translations(self) -> None:
-        if getattr(settings, "KOBDZILA_STORE", None) is not None:
-            super()._add_local_translations()
-        own: Any = self
-        # (Django wants the default language to have a file, which may be one of a store)
-        if own._catalog is None and is_in_stores(own.language()):
-            own._catalog, own._info = trans_real.TranslationCatalog(), {}
-
-
-class Live:
+class Live(trans_real.DjangoTranslation):  # type: ignore[misc]
     """The translation object of a language: its translations in the stores, and then Django's."""
 
     def __init__(self, language: str) -> None:
-        self._own = _Own(language)
+        super().__init__(language)
         self._locales = ":".join(names_of(to_locale(language)))
+
+    def _add_local_translations(self) -> None:
+        """Read the folders of the settings only if they aren't those of the stores."""
+        if getattr(settings, "KOBDZILA_STORE", None) is not None:
+            super()._add_local_translations()
+        # (Django wants the default language to have a file, which may be one of a store)
+        own: Any = self
+        if own._catalog is None and is_in_stores(own.language()):
+            own._catalog, own._info = trans_real.TranslationCatalog(), {}
 
     def gettext(self, message: str) -> str:
         """Return the translation of a message, which may have its context and byte 4 before it."""
@@ -164,7 +161,7 @@ class Live:
             found = _snapshot(store)._recall(DOMAIN, self._locales, msgid, context)
             if found is not None:
                 return found
-        own: str = self._own.gettext(message)
+        own: str = super().gettext(message)
         return own
 
     def ngettext(self, singular: str, plural: str, number: Any) -> str:
@@ -174,14 +171,11 @@ class Live:
             found = _snapshot(store)._counted(DOMAIN, self._locales, msgid, context, number)
             if found is not None:
                 return found
-        own: str = self._own.ngettext(singular, plural, number)
+        own: str = super().ngettext(singular, plural, number)
         return own
 
     def __repr__(self) -> str:
-        return f"<live {self._own!r}>"
-
-    def __getattr__(self, name: str) -> Any:
-        return getattr(self._own, name)
+        return f"<live {super().__repr__()}>"
 
 
 def parted(message: str) -> tuple[str | None, str]:
