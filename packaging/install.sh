@@ -86,7 +86,7 @@ if [ $# = 1 ]; then
   made=$(cat "$noted" 2> /dev/null || true) status=0
   # (one with other names for the programs)
   others=$(find "$prefix/share/doc" -path '*kobdzila/folders' ! -path "$noted" 2> /dev/null || true)
-  if each drop && rm -f "$noted"; then :; else
+  if ! { each drop && rm -f "$noted"; }; then
     status=1
     printf '%s\n' "install.sh: not all of it was removed below $prefix" >&2
   fi

@@ -429,7 +429,7 @@ def single_bytes(folder: Path) -> list[Case]:
 
 
 SEVERAL_BYTES = ("EUC-JP", "EUC-KR", "BIG5", "GB2312", "GBK")
-# Bytes of BIG5 whose code points other bytes have, too.
+# Bytes of BIG5 whose code points other bytes also have.
 DOUBLES = [b"\xa2\xcc", b"\xa2\xce", b"\xf9\xe9", b"\xf9\xf9", b"\xf9\xfd"]
 
 

@@ -34,7 +34,8 @@ static void is(const char *what, int holds) {
 /* ---- what the library asks of the C library */
 
 static unsigned long requests, refused, blocks;
-static size_t largest;
+static size_t largest, whole; /* a request for `whole` bytes or more is one for a whole file */
+static unsigned long wholes;
 static int free_changes_errno, leaves_open;
 
 void *__real_malloc(size_t len);
@@ -46,6 +47,7 @@ FILE *__real_fopen(const char *name, const char *mode);
 
 static int is_refused(size_t len) {
     largest = len > largest ? len : largest;
+    wholes += whole && len >= whole;
     if (++requests != refused)
         return 0;
     errno = ENOMEM;
@@ -389,6 +391,78 @@ static void cancelled(void) {
     unlink(name);
 }
 
+/* A file is opened as its bytes are, and so is a FIFO, which can be read only once. */
+static void opened_as_bytes(const char *what, const char *text, unsigned options) {
+    char fifo[4200], said[200];
+    size_t len = strlen(text);
+    write_file(name_of_file, text, len);
+    snprintf(fifo, sizeof fifo, "%s/fifo", folder);
+    unlink(fifo);
+    int made = !mkfifo(fifo, 0600), held = open(fifo, O_RDONLY | O_NONBLOCK | O_CLOEXEC);
+    int writer = open(fifo, O_WRONLY | O_CLOEXEC);
+    snprintf(said, sizeof said, "%s: a FIFO has the text", what);
+    is(said, made && held >= 0 && write(writer, text, len) == (ssize_t)len);
+    close(writer);
+    kob_refusal why[3];
+    kob_catalogue *c[3] = { kob_open_po(text, len, options, &why[0]),
+                            kob_open_file(name_of_file, KOB_PO, options, &why[1]),
+                            kob_open_file(fifo, KOB_PO, options, &why[2]) };
+    for (int i = 1; i < 3; i++) {
+        snprintf(said, sizeof said, "%s, options %u, is opened as its bytes: %s", what, options,
+                 i == 1 ? "a file" : "a FIFO");
+        is(said, !c[i] == !c[0] && why[i].fault == why[0].fault && why[i].line == why[0].line);
+        if (c[0] && c[i]) {
+            kob_text wanted = kob_mo_file(c[0]), got = kob_mo_file(c[i]);
+            is(said, got.len == wanted.len && !memcmp(got.at, wanted.at, got.len));
+        }
+        kob_release(c[i]);
+    }
+    kob_release(c[0]);
+    close(held);
+    unlink(fifo);
+    unlink(name_of_file);
+}
+
+static void texts_that_are_read_twice(void) {
+    static const char *const texts[][2] = {
+        { "a text in UTF-8", po },
+        { "a text in KOI8-R", "msgid \"\"\nmsgstr \"Content-Type: text/plain; charset=KOI8-R\\n\"\n"
+                              "msgid \"a\"\nmsgstr \"\xc1\"\n" },
+        { "a byte without a character", "msgid \"\"\nmsgstr \"Content-Type: text/plain; charset=ISO-8859-8\\n\"\n"
+                                        "msgid \"a\"\nmsgstr \"\xff\"\n" },
+        { "a charset that nobody knows", "msgid \"\"\nmsgstr \"Content-Type: text/plain; charset=NONE\\n\"\n" },
+        { "a macro", "#, c-format\nmsgid \"%<PRIu64> a\"\nmsgstr \"%<PRIu64> b\"\n" },
+        { "a flag I", "#, c-format\nmsgid \"%d a\"\nmsgstr \"%Id b\"\n" },
+        { "a fault in line 3", "msgid \"a\"\nmsgstr \"b\"\nmsgid\n" },
+    };
+    for (size_t i = 0; i < sizeof texts / sizeof *texts; i++) {
+        opened_as_bytes(texts[i][0], texts[i][1], 0);
+        opened_as_bytes(texts[i][0], texts[i][1], KOB_CHECKED);
+        opened_as_bytes(texts[i][0], texts[i][1], KOB_STRICT);
+    }
+}
+
+/* An MO file that this library wrote is opened in the one block that it was read into, or copied to. */
+static void opened_in_one_block(void) {
+    enum { MESSAGES = 2000 };
+    char *text = malloc(MESSAGES * 300), *end = text;
+    for (int i = 0; i < MESSAGES; i++)
+        end += sprintf(end, "msgid \"%d\"\nmsgstr \"%0200d\"\n", i, i);
+    kob_catalogue *c = kob_open_po(text, (size_t)(end - text), 0, NULL);
+    kob_text file = kob_mo_file(c);
+    write_file(name_of_file, file.at, file.len);
+    free(text);
+    wholes = 0;
+    whole = file.len;
+    kob_release(kob_open_file(name_of_file, KOB_MO, 0, NULL));
+    is("a file is opened in the block that it was read into", wholes == 1);
+    kob_release(kob_open_mo(file.at, file.len, NULL));
+    is("bytes are copied once", wholes == 2);
+    whole = 0;
+    kob_release(c);
+    unlink(name_of_file);
+}
+
 static void large_files(void) {
     int file = open(name_of_file, O_RDWR | O_CREAT | O_TRUNC | O_CLOEXEC, 0600);
     is("a large file is made", file >= 0 && !ftruncate(file, (off_t)1 << 40));
@@ -437,6 +511,8 @@ static void files(void) {
     no_descriptors();
     fifos();
     cancelled();
+    texts_that_are_read_twice();
+    opened_in_one_block();
     large_files();
     is("files are closed in programs that are started", !leaves_open);
 }

@@ -56,11 +56,11 @@ row 'a domain line' '' 0.0 refused 'unknown word' <<< 'domain "x"\nmsgid "a"\nms
 row 'a NUL' '' 0.0 refused 'bad text' <<< 'msgid "a\\0b"\nmsgstr "c"\n'
 row 'an escape in hexadecimal digits' '' 0.0 refused 'bad escape' <<< 'msgid "a"\nmsgstr "\\x41"\n'
 row 'an octal escape above 255' '' 0.0 refused 'bad escape' <<< 'msgid "a"\nmsgstr "x\\501"\n'
-for pair in '%%s %%hs' '%%S %%LS' '%%p %%lp' '%%zu %%Zu' '%%Lf %%llf' '%%s:%%m %%1$s:%%2$m'; do
+for pair in '%%s %%hs' '%%S %%LS' '%%p %%lp' '%%zu %%Zu' '%%Lf %%llf' '%%d %%01$d' '%%s:%%m %%1$s:%%2$m'; do
   row "a directive in other letters, $pair" -c 0.0 refused 'format arguments differ' \
     <<< "$plain#, c-format\nmsgid \"${pair% *}\"\nmsgstr \"${pair#* }\"\n"
 done
-for it in '%%hs' '%%Zu' '%%llf'; do
+for it in '%%hs' '%%Zu' '%%llf' '%%01$s' '%%1$s:%%2$m'; do
   row "another argument than that of $it" -c refused 0.0 <<< "$plain#, c-format\nmsgid \"$it\"\nmsgstr \"%%d\"\n"
 done
 differ="$plain"'msgid "a\\n"\nmsgstr "b"\n'
@@ -86,8 +86,51 @@ both 'UTF8' 0.0 0.0 <<< "${plain/UTF-8/UTF8}"'msgid "a"\nmsgstr "b"\n'
 both 'an obsolete word' refused 0.0 <<< "$plain"'#~ msgidx "a"\nmsgid "b"\nmsgstr "c"\n'
 both 'a byte order mark' refused 0.0 <<< '\357\273\277'"$plain"
 both 'a comment inside an entry' refused 0.0 <<< "$plain"'msgid "a"\n# here\nmsgstr "b"\n'
+row 'half a character in each of two strings' -c 0.0 refused 'bad text' <<< "$plain"'msgid "a"\nmsgstr "caf\\303" "\\251"\n'
+row 'an octal escape that is no UTF-8' -c 0.0 refused 'bad text' <<< "$plain"'msgid "a"\nmsgstr "caf\\351"\n'
+row 'c-format and then not' -c 0.0 refused 'format arguments differ' \
+  <<< "$plain"'#, c-format, no-c-format\nmsgid "%%d"\nmsgstr "%%s"\n'
+both 'c-format and then not, a macro' 0.0 refused 'system-dependent format' <<< "$plain${macro/format/format, no-c-format}"
+both 'a macro, Objective-C' 0.1 0.0 <<< "$plain${macro/c-format/objc-format}"
+both 'a macro that is none' 0.0 refused 'system-dependent format' <<< "$plain${macro//64/63}"
+long=$(printf '||n==%d' $(seq 200))
+for rule in "${long#||}" 'n>18446744073709551616'; do
+  row "a rule that is too long, ${rule:0:9}" -c 0.0 refused 'unreadable plural rule' \
+    <<< "${plural/n!=1/$rule}"'msgid "a"\nmsgid_plural "b"\nmsgstr[0] "c"\nmsgstr[1] "d"\n'
+done
+for it in 'UTF-8;' '\\\"UTF-8\\\"' ''; do
+  both "the charset $it" 0.0 refused 'unsupported charset' <<< "${plain/UTF-8/"$it"}"'msgid "a"\nmsgstr "b"\n'
+done
+both 'a backslash at the end of a line' 0.0 refused 'string not closed' <<< "$plain"'msgid "a\\\nb"\nmsgstr "c"\n'
+row 'a header that is no format of its msgid' -c 0.0 refused 'format arguments differ' \
+  <<< '#, c-format\n'"${plain/UTF-8/UTF-8\\\\nX-Done: 100 %% done}"'msgid "a"\nmsgstr "b"\n'
+both 'an index with zeros' 0.0 refused 'unknown word' \
+  <<< "$plural"'msgid "a"\nmsgid_plural "b"\nmsgstr[0000000000] "c"\nmsgstr[1] "d"\n'
 row 'nothing is translated' '' nothing 0.0 <<< 'msgid "a"\nmsgstr ""\n'
 both 'default values in the header' 0.0 0.0 <<< 'msgid ""\nmsgstr "Project-Id-Version: PACKAGE VERSION\\n"\n'
+
+# leaves NAME OPTION TEXT: GNU msgfmt refuses the text and writes its MO file, ours writes none
+leaves() {
+  printf "$3" > in.po
+  rm -f theirs.mo ours.mo
+  if ! "$gnu" ${2:+"$2"} -o theirs.mo in.po 2> err && ! "$program" -c -o ours.mo in.po 2> err &&
+    [ -e theirs.mo ] && [ ! -e ours.mo ]; then ok "beside GNU, the MO file after a check, $1"
+  else failed "beside GNU, the MO file after a check, $1" "$(ls -- *.mo)"; fi
+}
+leaves 'newlines' '' "$differ"
+leaves 'formats' -c "$plain"'#, c-format\nmsgid "%%d"\nmsgstr "%%s"\n'
+leaves 'the number of forms' -c "$plural"'msgid "a"\nmsgid_plural "b"\nmsgstr[0] "c"\n'
+leaves 'a rule' -c "${plural/n!=1/n!=}"'msgid "a"\nmsgid_plural "b"\nmsgstr[0] "c"\nmsgstr[1] "d"\n'
+
+# the statistics, and the PO file's name before them
+printf "$plain" > in.po
+for it in -v '-v -v' '-v --statistics'; do
+  name=
+  [ "$it" = -v ] || name='in.po: '
+  # shellcheck disable=SC2086
+  if [ "$("$gnu" $it -o theirs.mo in.po 2>&1)" = "${name}0 translated messages." ]; then ok "beside GNU, $it"
+  else failed "beside GNU, $it" "$("$gnu" $it -o theirs.mo in.po 2>&1)"; fi
+done
 
 # the header field POT-Creation-Date, and how it is dropped, from lines that end with LF, with CRLF and with a blank
 for ending in '' '\r' ' ' '\t '; do

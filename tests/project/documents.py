@@ -129,10 +129,12 @@ def kinds_of_scripts():
 
 
 def texts_of_trouble():
-    """the page of troubles has each text of msgfmt and of a session"""
+    """the page of troubles has each text of msgfmt, of a session and of the library"""
     texts = {re.sub(r" \{.*", "", text) for _, text in kinds(*LOADS).values()}
     command = read(COMMAND)
     texts |= set(re.findall(r"`msgfmt: (no input file given|bad command line|out of memory)`", command))
+    library = read("c/library/kobdzila.c").partition("const char *kob_fault_text(")[2].partition("\n}")[0]
+    texts |= set(re.findall(r'"([^"]*)"', library)) - {"no fault", "unknown fault"}
     page = read(TROUBLES)
     missing = sorted(it for it in texts if f"`{it}" not in page)
     return [f"{TROUBLES} has not: {missing}"] if missing else []
