@@ -26,7 +26,7 @@ static const char help[] =
     "  -h, --help              print this\n"
     "  -V, --version           print the version\n"
     "\n"
-    "The status is 0, or 1 if a file can't be read or written, or is no MO file in UTF-8.\n";
+    "The status is 0, or 1 if a file can't be read or written, or is refused.\n";
 
 enum { FORCE_PO = 256, STRICT, NO_WRAP, FOR_GNU };
 enum { WIDTH = 79, LEAST_WIDTH = 20 };
