@@ -191,6 +191,7 @@ install_completions:
 	$(completions) fish $(NAME) '$(PROGRAM_PREFIX)' > "$(to)$(fishdir)/$(AS).fish"
 	chmod 644 "$(to)$(bashdir)/$(AS)" "$(to)$(ZSHDIR)/_$(AS)" "$(to)$(fishdir)/$(AS).fish"
 
+# (pkg-config reads a blank in a path with a backslash before it)
 install_library:
 	install -d "$(to)$(LIBDIR)/pkgconfig" "$(to)$(preloaddir)" "$(to)$(includedir)" "$(to)$(mandir)/man3"
 	install -m 644 $(BUILD)/lib/libkobdzila.a "$(to)$(LIBDIR)/libkobdzila.a"
@@ -200,7 +201,8 @@ install_library:
 	install -m 755 $(BUILD)/lib/$(PRELOADED) "$(to)$(preloaddir)/$(PRELOADED)"
 	$(strip) --strip-unneeded "$(to)$(LIBDIR)/$(SHARED)" "$(to)$(preloaddir)/$(PRELOADED)"
 	install -m 644 include/kobdzila.h "$(to)$(includedir)/kobdzila.h"
-	sed -e 's|@PREFIX@|$(PREFIX)|g' -e 's|@LIBDIR@|$(LIBDIR:$(PREFIX)/%=$${prefix}/%)|g' -e 's|@VERSION@|$(version)|' \
+	sed -e 's|@PREFIX@|$(PREFIX)|' -e 's|@LIBDIR@|$(LIBDIR)|' -e 's|^libdir=$(PREFIX)/|libdir=$${prefix}/|' \
+	  -e 's|@VERSION@|$(version)|' -e '/^[a-z]*=/s/ /\\ /g' \
 	  c/library/kobdzila.pc.in > "$(to)$(LIBDIR)/pkgconfig/kobdzila.pc"
 	chmod 644 "$(to)$(LIBDIR)/pkgconfig/kobdzila.pc"
 	for name in $(functions); do \
