@@ -230,7 +230,7 @@ static int read_text(struct run *run, char *why) {
     run->text.bytes = read_most(file, TEXT_LIMIT, &run->text.len);
     int cause = errno;
     if (run->text.bytes && run->text.len > TEXT_LIMIT) {
-        tell("msgfmt-or-gnu: %s: more than 64 MiB: write it to a file, and name that", name);
+        tell("msgfmt-or-gnu: %s: more than 64 MiB: save it in a file, and give the name of that", name);
         _exit(1);
     }
     if (!is_stream)

@@ -231,7 +231,7 @@ if cmp -s x.mo wanted.mo && cmp -s y.mo wanted.mo; then ok "$name"; else failed 
 
 name='driver, a stream without an end'
 if said=$(yes | (ulimit -v 1200000 && "$driver" -o x.mo - 2>&1)); then failed "$name" "status 0: $said"
-elif [ "$said" = 'msgfmt-or-gnu: -: more than 64 MiB: write it to a file, and name that' ]; then ok "$name"
+elif [ "$said" = 'msgfmt-or-gnu: -: more than 64 MiB: save it in a file, and give the name of that' ]; then ok "$name"
 else failed "$name" "$said"; fi
 
 name='driver, a name with a line end, and warnings that nobody asked for'
