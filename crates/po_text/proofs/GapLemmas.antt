@@ -40,17 +40,22 @@ TakesGap-append f g h a b c s m t p q = record {
 line_end_is_white : (b : ℕ) → b ≡ 10 → is_white b ≡ true
 line_end_is_white b e = rw e refl
 
-pub goes_line : (f g : Flags) (a b c byte : ℕ) (s m t : List ℕ) → TakesGap f a s g b m → m ≡ byte ∷ t → byte ≡ 10 → c
-    ≡ b + 1 → TakesGap f a s g c t
-goes_line f g a b c byte s m t p split is e = TakesGap-append f g g a b c s m t p (record {
+-- a gap of one line's end
+pub one_line_end : (f : Flags) (a byte : ℕ) (s t : List ℕ) → s ≡ byte ∷ t → byte ≡ 10 → TakesGap f a s f (a + 1) t
+one_line_end f a byte s t split is = record {
   pieces = White byte ∷ [];
   flags = refl;
   each = (t, (split, line_end_is_white byte is), refl);
   gap = (tt, tt);
-  line = rw (is, e) (omega arith);
+  line = rw is (omega arith);
   room = omega (arith, ap length split);
   falls = omega (arith, ap length split);
-})
+}
+
+pub goes_line : (f g : Flags) (a b c byte : ℕ) (s m t : List ℕ) → TakesGap f a s g b m → m ≡ byte ∷ t → byte ≡ 10 → c
+    ≡ b + 1 → TakesGap f a s g c t
+goes_line f g a b c byte s m t p split is e =
+    TakesGap-append f g g a b c s m t p (rw e (one_line_end g b byte m t split is))
 
 pub goes_white : (f g : Flags) (a b byte : ℕ) (s m t : List ℕ) → TakesGap f a s g b m → m ≡ byte ∷ t → byte ≢ 10
     → is_white byte ≡ true → TakesGap f a s g b t
@@ -76,3 +81,18 @@ goes_comment f g h a b byte s m after later t p split is run cut flagged = Takes
   room = omega (arith, ap length split, ap length cut, length-append after t);
   falls = omega (arith, ap length split, ap length cut, length-append after t);
 })
+
+blank_is_white : (b : ℕ) → b ≡ 32 → is_white b ≡ true
+blank_is_white b e = rw e refl
+
+-- a gap of one blank
+pub one_blank : (f : Flags) (a byte : ℕ) (s t : List ℕ) → s ≡ byte ∷ t → byte ≡ 32 → TakesGap f a s f a t
+one_blank f a byte s t split is = record {
+  pieces = White byte ∷ [];
+  flags = refl;
+  each = (t, (split, blank_is_white byte is), refl);
+  gap = (tt, tt);
+  line = rw is refl;
+  room = omega (arith, ap length split);
+  falls = omega (arith, ap length split);
+}

@@ -5,6 +5,7 @@ ghost use Rattle.std.specs.Prelude.{◌≡◌, ℕ, ◌+◌, ◌-◌, ◌*◌, �
 ghost use Rattle.std.specs.Prelude.{◌∷◌, [], List, Bool, length, IfOk, IfErr, IfSome, IsTrue, MatchOption, false};
 ghost use Rattle.std.specs.List.{prefix_len, slice_split, take_while};
 ghost use Rattle.po_text.specs.Building.{flags_over};
+ghost use Rattle.po_text.specs.declared.flags.Flags.{Flags as Bits};
 ghost use Rattle.po_text.specs.Lexing.{is_no_separator, word_view, token_view, IsLawfulToken, StopsGap};
 ghost use Rattle.po_text.specs.Spelling.{comment_marks, flag_mark, is_separator, is_white, is_word_byte};
 ghost use Rattle.po_text.specs.Spelling.{is_not_line_end, word_token, number_of, IsLawful, PieceAt};
@@ -158,6 +159,30 @@ fn read_token<'a>(text: &'a [u8], bytes: &mut StringBytes<'a>) -> Result<(Token,
     }
 }
 
+/// Skips a gap that is one byte, as most are between two tokens of an entry: a blank before a string, or a line's end.
+#[inline(always)]
+fn skip_one<'a>(text: &'a [u8], line: &mut u32) -> Option<&'a [u8]>
+    requires { line.old + length text.now < 2 ^ 32 }
+    ensures none { result ≡ None → line.new ≡ line.old }
+    ensures gap { IfSome result (λ rest. (flags : Bits) →
+        TakesGap flags line.old text.now flags line.new rest.now) }
+    ensures stops { IfSome result (λ rest. StopsGap rest.now) }
+{
+    let (byte, later) = split_byte(text)?;
+    let (next, _) = split_byte(later)?;
+    if next != b'"' && next != b'm' {
+        return None;
+    }
+    if byte == b' ' {
+        return Some(later);
+    }
+    if byte == b'\n' {
+        *line += 1;
+        return Some(later);
+    }
+    None
+}
+
 /// Skips the white space and comments at the front, counting lines and collecting flags; returns what follows.
 #[inline(always)]
 fn gap_end<'a>(text: &'a [u8], line: &mut u32, flags: &mut Flags) -> &'a [u8]
@@ -165,6 +190,9 @@ fn gap_end<'a>(text: &'a [u8], line: &mut u32, flags: &mut Flags) -> &'a [u8]
     ensures gap { TakesGap flags.old line.old text.now flags.new line.new result.now }
     ensures stops { StopsGap result.now }
 {
+    if let Some(rest) = skip_one(text, line) {
+        return rest;
+    }
     let mut rest = text;
     'gap: while let Some((byte, later)) = split_byte(rest) {
         if byte == b'\n' {
