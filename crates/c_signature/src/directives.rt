@@ -1,16 +1,17 @@
 //! Directives, each read from after its `%`.
-ghost use Rattle.std.specs.Prelude.{◌≡◌, ◌↔◌, ◌++◌, ◌∷◌, ◌<◌, List, ℕ, IfOk, IfErr, IsTrue, length};
+ghost use Rattle.std.specs.Prelude.{◌≡◌, ◌↔◌, ◌++◌, ◌∷◌, ◌<◌, List, ℕ, IfOk, IfErr, IsTrue, length, IfSome};
 ghost use Rattle.std.specs.List.{prefix_len};
 ghost use Rattle.c_signature.specs.Directives.{BeginsMacro, IsAllowed, is_macro_conversion, is_name_byte};
 ghost use Rattle.c_signature.specs.FormatScanning.{ReadsDirective, Refuses};
 ghost use Rattle.c_signature.specs.Readers.{IsRun, argument_view};
 ghost use Rattle.c_signature.specs.Pieces.{percent};
 
-use crate::FormatFault;
 use crate::conversions::{Argument, argument_of};
 use crate::parts::{
-    Amount, after_byte, read_modifier, read_number, read_precision, read_width, split_flags,
+    Amount, Modifier, after_byte, read_modifier, read_number, read_precision, read_width,
+    split_flags,
 };
+use crate::{FormatFault, Size};
 use byte_text::split_byte;
 
 /// A directive, reduced to the arguments that it takes.
@@ -78,9 +79,28 @@ pub fn is_allowed(argument: Argument, number: Option<u32>) -> bool
     }
 }
 
-/// Reads a directive, from after its `%`. If it can't be read, the fault is `SystemDependent` for a macro, else
-/// `Invalid`.
-pub(crate) fn read_directive(text: &[u8]) -> Result<(Directive, &[u8]), FormatFault>
+/// Reads a directive that is only a conversion, as in `%s` or `%%`. No conversion begins another part of a directive
+/// (C standard, 7.21.6.1, 4). `None` says nothing about the text.
+fn read_plain(text: &[u8]) -> Option<(Directive, &[u8])>
+    ensures { IfSome result (λ found. ReadsDirective found.0 (percent ∷ text.now) found.1.now) }
+{
+    let (conversion, rest) = split_byte(text)?;
+    let argument = argument_of(conversion, Modifier::Of(Size::Plain));
+    if !is_allowed(argument, None) {
+        return None;
+    }
+    let directive = Directive {
+        number: None,
+        width: Amount::Fixed,
+        precision: Amount::Fixed,
+        argument,
+    };
+    Some((directive, rest))
+}
+
+/// Reads a directive part by part, from after its `%`. If it can't be read, the fault is `SystemDependent` for a macro,
+/// else `Invalid`.
+fn read_parts(text: &[u8]) -> Result<(Directive, &[u8]), FormatFault>
     ensures ok { IfOk result (λ found. ReadsDirective found.0 (percent ∷ text.now) found.1.now) }
     ensures err { IfErr result (λ fault. Refuses fault (percent ∷ text.now)) }
 {
@@ -106,4 +126,16 @@ pub(crate) fn read_directive(text: &[u8]) -> Result<(Directive, &[u8]), FormatFa
         argument,
     };
     Ok((directive, rest))
+}
+
+/// Reads a directive, from after its `%`. If it can't be read, the fault is `SystemDependent` for a macro, else
+/// `Invalid`.
+pub(crate) fn read_directive(text: &[u8]) -> Result<(Directive, &[u8]), FormatFault>
+    ensures ok { IfOk result (λ found. ReadsDirective found.0 (percent ∷ text.now) found.1.now) }
+    ensures err { IfErr result (λ fault. Refuses fault (percent ∷ text.now)) }
+{
+    match read_plain(text) {
+        Some(found) => Ok(found),
+        None => read_parts(text),
+    }
 }

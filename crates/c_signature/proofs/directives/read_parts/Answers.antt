@@ -7,7 +7,7 @@ use Rattle.c_signature.specs.Signature.{amount_requests, argument_requests}
 use Rattle.c_signature.specs.Readers.{amount_view, modifier_view, argument_view}
 use Rattle.c_signature.proofs.DirectiveLemmas.{head_from, directive_from, refuses_macro}
 use Rattle.c_signature.proofs.DirectiveLemmas.{refuses_invalid, tail_needs, tail_allows}
-use Rattle.c_signature.proofs.directives.read_directive.Goals as goal
+use Rattle.c_signature.proofs.directives.read_parts.Goals as goal
 
 pub returns-then-begins_macro-clause-err : goal.returns-then-begins_macro-clause-err
 returns-then-begins_macro-clause-err c =
