@@ -4,37 +4,29 @@ ghost use Rattle.po_text.specs.Faults.{fault_on, out_of_memory};
 ghost use Rattle.po_text.specs.declared.fault.PoKind.TheVariants.{Memory};
 
 use std::alloc::{AllocError, AllocFailed};
+use std::fmt;
 use thiserror::Error;
 
 /// What is wrong with a text.
-#[derive(Clone, Copy, Debug, PartialEq, Eq, Error)]
+#[derive(Clone, Copy, Debug, PartialEq, Eq)]
 pub enum PoKind {
     /// The text has more than 67,108,864 bytes.
-    #[error("file too large")]
     TooLarge,
     /// The text isn't UTF-8.
-    #[error("not UTF-8")]
     NotUtf8,
     /// A backslash in a string begins no escape, or an octal escape is above 255.
-    #[error("bad escape")]
     BadEscape,
     /// A line or the text ends inside a string.
-    #[error("string not closed")]
     OpenString,
     /// A word is neither a keyword nor a number, or a byte can't begin any token.
-    #[error("unknown word")]
     BadWord,
     /// A string holds NUL or isn't UTF-8, or a context or msgid holds byte 4.
-    #[error("bad text")]
     BadText,
     /// A token isn't allowed where it is, or the text ends in the middle of an entry.
-    #[error("out of order")]
     BadOrder,
     /// The index of a plural form isn't the next one.
-    #[error("wrong plural index")]
     BadIndex,
     /// An allocation failed; this says nothing about the text.
-    #[error("out of memory")]
     Memory,
 }
 
@@ -53,6 +45,30 @@ impl<T: Drop> From<AllocFailed<T>> for PoKind {
         PoKind::Memory
     }
 }
+
+impl PoKind {
+    fn text(self) -> &'static str {
+        match self {
+            PoKind::TooLarge => "file too large",
+            PoKind::NotUtf8 => "not UTF-8",
+            PoKind::BadEscape => "bad escape",
+            PoKind::OpenString => "string not closed",
+            PoKind::BadWord => "unknown word",
+            PoKind::BadText => "bad text",
+            PoKind::BadOrder => "out of order",
+            PoKind::BadIndex => "wrong plural index",
+            PoKind::Memory => "out of memory",
+        }
+    }
+}
+
+impl fmt::Display for PoKind {
+    fn fmt<W: fmt::Write>(&self, f: &mut fmt::Formatter<W>) -> fmt::Result {
+        f.write_str(self.text())
+    }
+}
+
+impl std::error::Error for PoKind {}
 
 /// What is wrong with a text, and on which line, counted from 1. The line is 0 if the text is too large or memory runs
 /// out.
