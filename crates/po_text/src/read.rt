@@ -1,17 +1,31 @@
 //! Reads all entries of a text at once.
 ghost use Rattle.std.specs.Prelude.{◌≡◌, ℕ, ◌+◌, ◌<◌, ◌≤◌, ◌⊎◌, List, []};
-ghost use Rattle.std.specs.Prelude.{◌∷◌, ◌++◌, length, map, IfOk, IfErr, slice_get, Some};
+ghost use Rattle.std.specs.Prelude.{◌∷◌, ◌++◌, length, map, IfOk, IfErr, OnOk, slice_get, Some};
 ghost use Rattle.po_text.specs.declared.fault.PoKind.{PoKind as KindOfFault};
 ghost use Rattle.po_text.specs.Faults.{out_of_memory};
 ghost use Rattle.po_text.specs.Entries.{Entry};
 ghost use Rattle.po_text.specs.Outcome.{Gives, Refuses};
-ghost use Rattle.po_text.specs.Views.{AreCopies};
+ghost use Rattle.po_text.specs.Views.{AreCopies, content, entry_view};
 
 use crate::buffer::EntryBuffer;
 use crate::entry::PoEntry;
 use crate::fault::PoFault;
 use crate::open::open_text;
-use std::alloc::Global;
+use std::alloc::{AllocError, Global};
+
+/// Appends a copy of the entry in `buffer`.
+fn push_copy(
+    entries: &mut Vec<PoEntry>,
+    alloc: Global,
+    buffer: &EntryBuffer,
+) -> Result<(), AllocError>
+    ensures { OnOk result (map entry_view entries.new.items
+        ≡ map entry_view entries.old.items ++ (content buffer.now ∷ [])) }
+{
+    let entry = buffer.to_entry(alloc)?;
+    entries.push(entry)?;
+    Ok(())
+}
 
 /// Reads all entries of a PO text (the GNU gettext manual, "PO Files"), in order.
 ///
@@ -27,8 +41,7 @@ pub fn read_po(alloc: Global, text: &[u8]) -> Result<Vec<PoEntry>, PoFault>
     let mut buffer = EntryBuffer::new(alloc);
     let mut entries = Vec::new(alloc);
     'entries: while reader.next_entry(&mut buffer)? {
-        let entry = buffer.to_entry(alloc)?;
-        entries.push(entry)?;
+        push_copy(&mut entries, alloc, &buffer)?;
     }
     Ok(entries)
 }

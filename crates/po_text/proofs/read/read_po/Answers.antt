@@ -17,14 +17,11 @@ returns-in_err-next_entry-clause-err c =
 pub entries-preserved : goal.entries-preserved
 entries-preserved c =
     let text = body c.args.text.now in
-    let copies = c.entries.entries.items in
     let (entries, has, same) = c.entries.invariant in
     let (forms, had) = rw c.if-branch.true at (c.in_ok-next_entry.ensures.read text entries has) in
     let next = c.next_entry.new.into in
-    let all : map entry_view c.push.new.self.items ≡ map content (entries ++ (next ∷ []))
-    = ap (map entry_view) c.in_ok-push.ensures.items ∙ map-append entry_view copies (c.in_ok-entry.entry ∷ [])
-    ∙ ap (λ (x : List Content). x ++ map entry_view (c.in_ok-entry.entry ∷ [])) same
-    ∙ ap (λ (x : Content). map content entries ++ (x ∷ [])) c.in_ok-entry.ensures
+    let all : map entry_view c.push_copy.new.entries.items ≡ map content (entries ++ (next ∷ []))
+    = c.in_ok-push_copy.ensures ∙ ap (λ (x : List Content). x ++ (content next ∷ [])) same
     ∙ sym (map-append content entries (next ∷ [])) in
     (entries ++ (next ∷ []), had, all)
 
