@@ -1,6 +1,7 @@
 use Rattle.po_text.proofs.Kit.{◌≡◌, ℕ, List, ◌∷◌, refl, sym, ap, ◌∙◌, Some, IfOk, take_while, PoKind, Quoted, Word}
 use Rattle.po_text.proofs.Kit.{PieceAt, is_word_byte, string_of, token_view}
-use Rattle.std.proofs.Common.{Ok, Err, Result}
+use Rattle.std.proofs.Common.{Ok, Err, Result, arith}
+use Rattle.std.proofs.lemmas.Grind.{common_steps}
 use denote.Ref.{Bor}
 use Rattle.po_text.specs.declared.lexer.Token as code
 use Rattle.po_text.specs.Spelling as spec
@@ -22,3 +23,6 @@ a_word text bytes (Err e) h = tt
 pub returns-else-byte-eq93-clause-ok : goal.returns-else-byte-eq93-clause-ok
 returns-else-byte-eq93-clause-ok c = a_word c.args.text.now (string_of c.args.bytes.now) c.read_word.result
     c.read_word.ensures.ok
+
+pub returns-else-byte-eq93-clause-err : goal.returns-else-byte-eq93-clause-err
+returns-else-byte-eq93-clause-err c = grind (arith, common_steps)
