@@ -1,12 +1,14 @@
 -- A text, cut into plain pieces and directives from the front.
 use Rattle.std.proofs.Common.{◌≡◌, ℕ, ◌+◌, ◌-◌, ◌<◌, ◌≤◌, true, List, [], ◌∷◌, ◌++◌, length, take}
-use Rattle.std.proofs.Common.{drop, get_or, None, Some, refl, sym, ap, subst, ◌∙◌, arith, inl, inr}
+use Rattle.std.proofs.Common.{drop, get_or, refl, sym, ap, subst, ◌∙◌, arith, inl, inr}
+use Rattle.std.specs.Prelude.{◌==◌}
 use Rattle.std.specs.List.{list_all, flat_map}
 use Rattle.std.proofs.lemmas.List.{append-nil, take-append-drop, take_rest, drop_more, length-append}
-use Rattle.std.proofs.lemmas.List.{flat_map_more, take_all, get_or_default, get_or-take, length-take-le}
-use Rattle.std.proofs.lemmas.List.Sums.{list_all-from_AllPass}
-use Rattle.std.proofs.lemmas.Bool.{cases_Bool, eqb-true}
-use Rattle.memchr.specs.Find.{IsFirstByte, is_byte}
+use Rattle.std.proofs.lemmas.List.{flat_map_more, take_all, get_or-take, length-take-le}
+use Rattle.std.proofs.lemmas.List.Sums.{list_all-from_AllPass, fails_before_first, passes_at_first}
+use Rattle.std.proofs.lemmas.List.Sums.{prefix_len-le-length}
+use Rattle.std.proofs.lemmas.Bool.{eqb-true}
+use Rattle.byte_text.specs.Cut.{offset_of}
 use Rattle.c_signature.specs.declared.ArgKind.{ArgKind}
 use Rattle.c_signature.specs.declared.FormatFault.{FormatFault}
 use Rattle.c_signature.specs.declared.FormatFault.TheVariants.{Invalid, SystemDependent, Memory}
@@ -21,40 +23,34 @@ use Rattle.c_signature.specs.Asked.{AddsAsked, KeepsAsked, IsInvalidOnly}
 
 -- ---- the next `%`
 
-plain_before : (text : List ℕ) (n : ℕ) → n ≤ length text → ((k : ℕ) → k < n → is_byte percent (get_or text k 0) ≡ true
-    → ⊥) → list_all is_plain (take n text) ≡ true
-plain_before text n le none = list_all-from_AllPass is_plain (take n text) (λ k d lt.
-    let within : k < n = omega (arith, length-take-le n text le) in
-    let here : get_or (take n text) k d ≡ get_or text k 0 = get_or-take n text k d within
-    ∙ get_or_default text k d 0 (omega arith) in
-    rw here (plain_byte (get_or text k 0) (none k within)))
-  where
-    plain_byte : (b : ℕ) → (is_byte percent b ≡ true → ⊥) → is_plain b ≡ true
-    plain_byte b differs = elim (cases_Bool (is_byte percent b)) [
-      | inl e ↦ absurd (differs e)
-      | inr e ↦ rw e refl
-    ]
+plain_before : (text : List ℕ) (n : ℕ) → n ≤ offset_of percent text → list_all is_plain (take n text) ≡ true
+plain_before text n le = list_all-from_AllPass is_plain (take n text) (λ k d lt.
+    let all : offset_of percent text ≤ length text = prefix_len-le-length is_plain text in
+    let within : k < n = omega (arith, length-take-le n text (omega (arith, all))) in
+    let here : get_or (take n text) k d ≡ get_or text k d = get_or-take n text k d within in
+    rw (here, fails_before_first (λ b. b == percent) text k d (omega (arith, within))) refl)
 
-pub no_percent : (text : List ℕ) → IsFirstByte (is_byte percent) text None → SkipsPlain text []
-no_percent text none = record {
-  plain = text;
-  text_is = sym (append-nil text);
-  no_percent = rw (← take_all_of) (plain_before text (length text) (omega arith) (λ k lt e. none k (omega arith) lt e));
-}
-  where
-    take_all_of : take (length text) text ≡ text
-    take_all_of = take_all (length text) text (omega arith)
-
-pub to_percent : (text : List ℕ) (offset : ℕ) → IsFirstByte (is_byte percent) text (Some offset)
-    → SkipsPlain text (percent ∷ take (length text - (offset + 1)) (drop (offset + 1) text))
-to_percent text offset (first, at) =
-    let here : get_or text offset 0 ≡ percent = eqb-true _ _ at in
-    let rest : drop offset text ≡ percent ∷ drop (offset + 1) text = drop_more text offset 0 first.high
-    ∙ ap (λ (b : ℕ). b ∷ drop (offset + 1) text) here in
+pub no_percent : (text : List ℕ) (at : ℕ) → at ≡ offset_of percent text → length text ≤ at → SkipsPlain text []
+no_percent text at is none =
+    let all : offset_of percent text ≤ length text = prefix_len-le-length is_plain text in
     record {
-      plain = take offset text;
-      text_is = rw (take_rest text (offset + 1), ← rest) (sym (take-append-drop offset text));
-      no_percent = plain_before text offset (omega (arith, first.high)) (λ k lt e. first.before k (omega arith) lt e);
+      plain = text;
+      text_is = sym (append-nil text);
+      no_percent = rw (← take_all (length text) text (omega arith)) (plain_before text (length text)
+          (omega (arith, is)));
+    }
+
+pub to_percent : (text : List ℕ) (at : ℕ) → at ≡ offset_of percent text → at < length text
+    → SkipsPlain text (percent ∷ take (length text - (at + 1)) (drop (at + 1) text))
+to_percent text at is lt =
+    let here : get_or text at 0 ≡ percent = eqb-true _ _
+    (rw is (passes_at_first (λ b. b == percent) text 0 (omega (arith, is)))) in
+    let rest : drop at text ≡ percent ∷ drop (at + 1) text = drop_more text at 0 lt
+    ∙ ap (λ (b : ℕ). b ∷ drop (at + 1) text) here in
+    record {
+      plain = take at text;
+      text_is = rw (take_rest text (at + 1), ← rest) (sym (take-append-drop at text));
+      no_percent = plain_before text at (omega (arith, is));
     }
 
 -- ---- the cut so far

@@ -7,7 +7,7 @@ ghost use Rattle.c_signature.specs.declared.ArgKind.{ArgKind as Kind};
 use crate::directives::read_directive;
 use crate::requests::Requests;
 use crate::{ArgKind, FormatFault};
-use memchr::memchr;
+use byte_text::offset_of;
 use std::alloc::Global;
 
 /// What follows the next `%`, if there is one.
@@ -15,8 +15,12 @@ fn next_directive(text: &[u8]) -> Option<&[u8]>
     ensures { MatchOption result (SkipsPlain text.now [])
         (λ rest. SkipsPlain text.now (percent ∷ rest.now)) }
 {
-    let offset = memchr(b'%', text)?;
-    Some(&text[offset + 1..])
+    let offset = offset_of(text, b'%');
+    if offset < text.len() {
+        Some(&text[offset + 1..])
+    } else {
+        None
+    }
 }
 
 /// The arguments that a C format takes, in order (C standard, 7.21.6.1; numbered arguments as in POSIX, by numbers of

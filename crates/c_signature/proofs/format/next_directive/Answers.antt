@@ -1,8 +1,10 @@
 use Rattle.c_signature.proofs.FormatLemmas.{no_percent, to_percent}
 use Rattle.c_signature.proofs.format.next_directive.Goals as goal
 
-pub returns-in_err-offset : goal.returns-in_err-offset
-returns-in_err-offset c = rw c.from_residual.ensures (no_percent c.args.text.now c.in_err-offset.ensures)
+pub returns-then-offset-text : goal.returns-then-offset-text
+returns-then-offset-text c = to_percent c.args.text.now c.offset_of-offset.result c.offset_of-offset.ensures.offset
+    c.if-offset-text.true
 
-pub returns : goal.returns
-returns c = to_percent c.args.text.now c.in_ok-offset.offset c.in_ok-offset.ensures
+pub returns-else-offset-text : goal.returns-else-offset-text
+returns-else-offset-text c = no_percent c.args.text.now c.offset_of-offset.result c.offset_of-offset.ensures.offset
+    c.if-offset-text.false
