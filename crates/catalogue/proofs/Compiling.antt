@@ -17,7 +17,7 @@ use Rattle.po_text.proofs.Sizes.{gives_count}
 use Rattle.po_header.specs.Rule.{Rule, HasRuleIn}
 use Rattle.po_checks.specs.Found.{IsFault}
 use Rattle.mo_image.specs.Map.{IsLawful, header_text as header_of}
-use Rattle.catalogue.specs.Value.{HasMapRule}
+use Rattle.catalogue_map.specs.Value.{HasMapRule}
 use Rattle.catalogue.specs.Meaning.{lacking_fields, none_missing}
 use Rattle.po_checks.specs.Kept.{kept_header, header_text_of, HasHeaderRule, NamesAcceptedCharset}
 use Rattle.po_checks.specs.Fails.{IsForeignAt}

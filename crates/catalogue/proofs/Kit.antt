@@ -34,8 +34,6 @@ pub use Rattle.catalogue.specs.Drafts.{FirstRepeat, IsFirstRepeat, IsLawfulMessa
 pub use Rattle.catalogue.specs.Drafts.{counts_as, is_kept_header, kept_entry, outline, outline_of, outlines}
 pub use Rattle.catalogue.specs.Drafts.{outlines_from, texts_of, HasCollected}
 pub use Rattle.catalogue.specs.Meaning.{IsMapOf, Means, Refuses}
-pub use Rattle.catalogue.specs.Messages.{message_entry}
-pub use Rattle.catalogue.specs.Sizes.{capped_number}
 pub use Rattle.catalogue.specs.declared.texts.Standing.TheVariants.{Fuzzy, Translated, Untranslated}
 pub use Rattle.catalogue.specs.declared.compiler.Compiled.{Compiled}
 pub use Rattle.catalogue.specs.declared.drafts.Draft.{Draft}

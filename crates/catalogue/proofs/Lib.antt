@@ -13,5 +13,3 @@ pub mod HeaderFound
 pub mod Compiling
 pub mod OneMeaning
 pub mod SomeMeaning
-pub mod InStrings
-pub mod Accepting

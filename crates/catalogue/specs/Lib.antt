@@ -5,15 +5,13 @@ pub use Rattle.mo_image.specs.Parts
 pub use Rattle.mo_image.specs.Tables
 pub use Rattle.mo_image.specs.Pairs
 pub use Rattle.entry_search.specs.Search
+pub use Rattle.catalogue_map.specs.Messages
+pub use Rattle.catalogue_map.specs.Value
 pub use Rattle.po_checks.specs.Kept
 pub use Rattle.po_checks.specs.Checks
 pub use Rattle.po_checks.specs.Fails
-pub mod Messages
 pub mod Meaning
-pub mod Value
 pub mod Laws
 pub mod Shares
 pub mod Drafts
 pub mod Reading
-pub mod Sizes
-pub mod Accepted

@@ -8,13 +8,13 @@ ghost use Rattle.mo_image.specs.Map.{HasAcceptedCharset};
 ghost use Rattle.catalogue.specs.Meaning.{lacking_fields, none_missing, Means, Refuses};
 ghost use Rattle.po_checks.specs.Refusal.{out_of_memory};
 
-use crate::Catalogue;
 use crate::collect::{Collected, collect};
 use crate::drafts::{
     Draft, KeptDrafts, counts_as, first_repeat, header_line, header_text, keep, sort,
 };
 use crate::texts::Standing;
 use bumpalo::Bump;
+use catalogue_map::Catalogue;
 use mo_image::{HEADER_LEN, ROW_LEN};
 use po_checks::{LoadFault, LoadKind, Options};
 use po_header::{has_accepted_charset, missing_fields, rule_in};

@@ -4,23 +4,16 @@
 //! translated forms and, if the message has a plural, its msgid_plural.
 #![tactic(auto)]
 
-mod accepts;
 mod collect;
 mod compiler;
 mod drafts;
 mod law;
-mod lookup;
-mod map;
-mod sizes;
-mod sorted;
 mod texts;
 
+pub use catalogue_map::{Catalogue, Found, Message, counted, first_form, untranslated};
 pub use compiler::{Compiled, Stats, compile, compile_owned};
 pub use entry_search::{AskedKey, NO_HINT, Steps};
 pub use law::one_meaning;
-pub use lookup::{Found, counted, first_form, untranslated};
-pub use map::Catalogue;
 pub use mo_image::{EntryRef, EntryStrings, Forms};
 pub use po_checks::{LoadFault, LoadKind, Options};
 pub use po_text::MAX_TEXT;
-pub use sorted::Message;

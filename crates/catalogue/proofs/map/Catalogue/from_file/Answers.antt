@@ -1,5 +1,0 @@
-use Rattle.std.proofs.Common.{rules}
-use Rattle.catalogue.proofs.map.Catalogue.from_file.Goals as goal
-
-pub returns : goal.returns
-returns c = search rules

@@ -1,5 +1,0 @@
-use Rattle.catalogue.proofs.InStrings.{Lists}
-use Rattle.catalogue.proofs.map.Catalogue.from_sorted.Given as goal
-
-abbrev pub invariant-messages : goal.invariant-messages
-invariant-messages l = Lists l.strings.items l.message-iterator.rest.items l.fn.messages.items

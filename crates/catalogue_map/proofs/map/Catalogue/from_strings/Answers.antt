@@ -1,0 +1,5 @@
+use Rattle.std.proofs.Common.{rules}
+use Rattle.catalogue_map.proofs.map.Catalogue.from_strings.Goals as goal
+
+pub returns : goal.returns
+returns c = search rules
