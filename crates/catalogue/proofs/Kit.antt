@@ -36,4 +36,4 @@ pub use Rattle.catalogue.specs.Drafts.{outlines_from, texts_of, HasCollected}
 pub use Rattle.catalogue.specs.Meaning.{IsMapOf, Means, Refuses}
 pub use Rattle.catalogue.specs.declared.texts.Standing.TheVariants.{Fuzzy, Translated, Untranslated}
 pub use Rattle.catalogue.specs.declared.compiler.Compiled.{Compiled}
-pub use Rattle.catalogue.specs.declared.drafts.Draft.{Draft}
+pub use Rattle.catalogue.specs.declared.draft.Draft.{Draft}

@@ -3,6 +3,7 @@ pub mod Members
 pub mod OutlineOrder
 pub mod Repeats
 pub mod Keeping
+pub mod Keying
 pub mod InOrder
 pub mod PoEntries
 pub mod Listing

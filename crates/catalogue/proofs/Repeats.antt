@@ -8,7 +8,7 @@ use Rattle.std.proofs.lemmas.Slice.Eq.{bytes_eq-Decides}
 use Rattle.std.specs.Str.{bytes_eq}
 use Rattle.catalogue.specs.Drafts.{Outline, outline, outlines, IsRepeat, IsFirstRepeat, FirstRepeat, is_earlier}
 use Rattle.catalogue.specs.Drafts.{earlier_repeat}
-use Rattle.catalogue.specs.declared.drafts.Draft.{Draft}
+use Rattle.catalogue.specs.declared.draft.Draft.{Draft}
 
 -- what holds for the pairs before i and for the one that ends at i holds for those up to i
 up_to : (P : ℕ → Type 0) (i : ℕ) → 1 ≤ i → ((j : ℕ) → j + 1 < i → P j) → P (i - 1) → (j : ℕ) → j + 1 < i + 1 → P j

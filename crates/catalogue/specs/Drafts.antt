@@ -1,6 +1,6 @@
 -- Private: what the compiler's own functions promise about the entries until they are sorted.
-use Rattle.std.specs.Prelude.{◌≡◌, ℕ, ◌+◌, ◌<◌, ◌≤◌, Bool, List, [], ◌∷◌, length, map, Option, Some, None, option_map}
-use Rattle.std.specs.Prelude.{if◌then◌else◌, ◌&&◌, nat_lt, true, false, is_some, ◌==◌}
+use Rattle.std.specs.Prelude.{◌≡◌, ℕ, ◌+◌, ◌<◌, ◌≤◌, Bool, List, [], ◌∷◌, length, map, take, drop, Option, Some, None}
+use Rattle.std.specs.Prelude.{option_map, if◌then◌else◌, ◌&&◌, nat_lt, true, false, is_some, ◌==◌}
 use denote.Ref.{Bor}
 use Rattle.std.specs.Str.{bytes_eq}
 use Rattle.std.specs.List.{slice_index_or, slice_split, find, AllByRecursion}
@@ -17,7 +17,7 @@ use Rattle.po_checks.specs.Found.{HasFound}
 use Rattle.po_checks.specs.declared.findings.Findings.{Findings}
 use Rattle.po_checks.specs.declared.options.Options.{Options}
 use Rattle.catalogue.specs.Shares.{Kept, texts_by}
-use Rattle.catalogue.specs.declared.drafts.Draft.{Draft}
+use Rattle.catalogue.specs.declared.draft.Draft.{Draft}
 use Rattle.catalogue.specs.declared.texts.Standing.{Standing}
 use Rattle.catalogue.specs.declared.texts.Standing.TheVariants.{Header, Untranslated, Fuzzy, Translated}
 
@@ -29,13 +29,17 @@ pub record Outline : Type 0 where
   pub standing : Standing
   pub texts : Option Kept
 
+-- what is kept of a draft's entry besides its key
+abbrev pub kept_in : Draft → List ℕ
+kept_in d = drop d.key_len d.text.now
+
 abbrev pub outline : Draft → Outline
 outline d = record {
   number = d.number;
   line = d.line;
-  key = d.key;
+  key = take d.key_len d.text.now;
   standing = d.standing;
-  texts = texts_by d.share d.kept.now;
+  texts = texts_by d.share (kept_in d);
 }
 
 abbrev pub outlines : List Draft → List Outline
@@ -87,7 +91,7 @@ entry_with key None = entry_from key None []
 entry_with key (Some t) = entry_from key t.0 t.1
 
 abbrev pub draft_entry : Draft → Entry
-draft_entry d = entry_with d.key (texts_by d.share d.kept.now)
+draft_entry d = entry_with (take d.key_len d.text.now) (texts_by d.share (kept_in d))
 
 abbrev pub drafts_entries : List Draft → List Entry
 drafts_entries drafts = map draft_entry drafts

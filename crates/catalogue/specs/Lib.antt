@@ -13,5 +13,6 @@ pub use Rattle.po_checks.specs.Fails
 pub mod Meaning
 pub mod Laws
 pub mod Shares
+pub mod Keyed
 pub mod Drafts
 pub mod Reading

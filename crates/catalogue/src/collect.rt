@@ -11,10 +11,11 @@ ghost use Rattle.catalogue.specs.Shares.{texts_by};
 ghost use Rattle.catalogue.specs.Reading.{IsReadOf};
 ghost use Rattle.po_checks.specs.Refusal.{out_of_memory};
 
-use crate::drafts::Draft;
+use crate::draft::{Draft, next_of};
+use crate::pool::Pool;
 use crate::texts::{Share, Standing};
 use bumpalo::Bump;
-use byte_text::LongKey;
+use byte_text::front_of;
 use mo_image::{push_form, push_key};
 use po_checks::{Findings, LoadFault, Options, is_header, is_untranslated};
 use po_text::{EntryBuffer, open_text};
@@ -50,21 +51,17 @@ fn is_kept_as(standing: Standing, entry: &EntryBuffer, options: Options) -> bool
     }
 }
 
-/// Copies the entry's key to the arena. A key with a context is joined in `scratch` first.
-fn key_in<'a>(
-    arena: &'a Bump,
-    scratch: &mut String,
-    entry: &EntryBuffer,
-) -> Result<&'a str, AllocError>
+/// The entry's key. A key with a context is joined in `scratch`.
+fn key_of<'e>(scratch: &'e mut String, entry: &'e EntryBuffer) -> Result<&'e str, AllocError>
     ensures { IfOk result (λ key. key.now ≡ Meaning.key_of entry.now) }
 {
     match entry.context() {
         Some(context) => {
             scratch.clear();
             push_key(scratch, Some(context), entry.id())?;
-            arena.try_alloc_str(scratch)
+            Ok(scratch)
         }
-        None => arena.try_alloc_str(entry.id()),
+        None => Ok(entry.id()),
     }
 }
 
@@ -78,30 +75,29 @@ fn add_forms(texts: &mut String, entry: &EntryBuffer) -> Result<(), AllocError>
     Ok(())
 }
 
-/// Copies the plural and the forms, joined by NULs in `scratch`, to the arena.
-fn plural_in<'a>(
-    arena: &'a Bump,
-    scratch: &mut String,
+/// Joins the plural and the forms by NULs in `scratch`.
+fn plural_of<'e>(
+    scratch: &'e mut String,
     plural: &str,
     entry: &EntryBuffer,
-) -> Result<&'a str, AllocError>
+) -> Result<&'e str, AllocError>
     ensures { IfOk result (λ joined. joined.now ≡ plural.now ++ 0 ∷ translation (message_of entry.now)) }
 {
     scratch.clear();
     scratch.push_str(plural)?;
     scratch.push('\0')?;
     add_forms(scratch, entry)?;
-    arena.try_alloc_str(scratch)
+    Ok(scratch)
 }
 
-/// Copies what is kept of an entry besides its key to the arena, for an entry that counts like this.
-fn kept_in<'a>(
-    arena: &'a Bump,
-    scratch: &mut String,
-    entry: &EntryBuffer,
+/// What is kept of an entry besides its key, for an entry that counts like this. A plural and its forms are joined in
+/// `scratch`.
+fn kept_of<'e>(
+    scratch: &'e mut String,
+    entry: &'e EntryBuffer,
     options: Options,
     standing: Standing,
-) -> Result<(Share, &'a str), AllocError>
+) -> Result<(Share, &'e str), AllocError>
     requires lawful { IsLawfulTexts entry.now }
     requires forms { HasItsForms entry.now }
     requires standing { standing ≡ Drafts.standing_of entry.now }
@@ -111,15 +107,33 @@ fn kept_in<'a>(
         return Ok((Share::Dropped, ""));
     }
     match entry.plural() {
-        Some(plural) => Ok((Share::Plural, plural_in(arena, scratch, plural, entry)?)),
-        None => Ok((Share::Plain, arena.try_alloc_str(entry.form(0))?)),
+        Some(plural) => Ok((Share::Plural, plural_of(scratch, plural, entry)?)),
+        None => Ok((Share::Plain, entry.form(0))),
     }
 }
 
-/// Copies the texts of the entry with this index to the arena, and returns its draft.
+/// A number in 32 bits. No PO text is long enough for one that doesn't fit; it would be refused like a failed
+/// allocation.
+fn word_of(n: usize) -> Result<u32, AllocError>
+    ensures { IfOk result (λ word. word ≡ n) }
+{
+    if n > u32::MAX as usize {
+        return Err(AllocError);
+    }
+    Ok(n as u32)
+}
+
+/// Strings that are reused for the texts that have to be joined before they are copied.
+#[derive(Drop)]
+struct Scratch {
+    key: String,
+    kept: String,
+}
+
+/// Copies the texts of the entry with this index to the pool, and returns its draft.
 fn draft_in<'a>(
-    arena: &'a Bump,
-    scratch: &mut String,
+    pool: &mut Pool<'a>,
+    scratch: &mut Scratch,
     entry: &EntryBuffer,
     options: Options,
     number: usize,
@@ -129,12 +143,14 @@ fn draft_in<'a>(
     ensures draft { IfOk result (λ draft. outline draft ≡ outline_of options number entry.now) }
 {
     let standing = standing_of(entry);
-    let key = LongKey::new(key_in(arena, scratch, entry)?);
-    let (share, kept) = kept_in(arena, scratch, entry, options, standing)?;
+    let key = key_of(&mut scratch.key, entry)?;
+    let (share, kept) = kept_of(&mut scratch.kept, entry, options, standing)?;
     Ok(Draft {
-        key,
-        kept,
-        number,
+        text: pool.join(key, kept)?,
+        front: front_of(key),
+        next: next_of(key),
+        key_len: word_of(key.len())?,
+        number: word_of(number)?,
         line: entry.line(),
         share,
         standing,
@@ -162,11 +178,15 @@ pub(crate) fn collect<'a>(
 {
     let mut reader = open_text(alloc, text)?;
     let mut entry = EntryBuffer::new(alloc);
-    let mut scratch = String::new(alloc);
+    let mut pool = Pool::new(arena);
+    let mut scratch = Scratch {
+        key: String::new(alloc),
+        kept: String::new(alloc),
+    };
     let mut drafts = Vec::new(alloc);
     let mut findings = Findings::new();
     'entries: while reader.next_entry(&mut entry)? {
-        let draft = draft_in(arena, &mut scratch, &entry, options, drafts.len())?;
+        let draft = draft_in(&mut pool, &mut scratch, &entry, options, drafts.len())?;
         findings.look_at_if(draft.is_kept(), alloc, &entry, options)?;
         drafts.push(draft)?;
     }

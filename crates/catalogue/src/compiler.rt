@@ -9,9 +9,8 @@ ghost use Rattle.catalogue.specs.Meaning.{lacking_fields, none_missing, Means, R
 ghost use Rattle.po_checks.specs.Refusal.{out_of_memory};
 
 use crate::collect::{Collected, collect};
-use crate::drafts::{
-    Draft, KeptDrafts, counts_as, first_repeat, header_line, header_text, keep, sort,
-};
+use crate::draft::Draft;
+use crate::drafts::{KeptDrafts, counts_as, first_repeat, header_line, header_text, keep, sort};
 use crate::texts::Standing;
 use bumpalo::Bump;
 use catalogue_map::Catalogue;
@@ -108,8 +107,8 @@ pub fn compile(alloc: Global, text: &[u8], options: Options) -> Result<Compiled,
 }
 
 /// Compiles a PO text as `compile` does, but takes ownership of it. Once the entries have been read, the MO file is
-/// written into the text's memory, so the two are never held at once, and a large file takes no memory that is new to
-/// the program.
+/// written into the text's memory. So the two are never held at once, and the MO file of a large text needs no memory
+/// of its own.
 pub fn compile_owned(alloc: Global, text: Vec<u8>, options: Options) -> Result<Compiled, LoadFault>
     ensures ok { IfOk result (Means text.items options) }
     ensures err { IfErr result (λ fault. (fault ≡ out_of_memory) ⊎ Refuses text.items options fault.kind fault.line) }
@@ -127,7 +126,7 @@ fn file_room(drafts: &[Draft<'_>]) -> usize {
     drafts
         .iter()
         .fold(rows.saturating_add(HEADER_LEN), |room: usize, draft| {
-            room.saturating_add(draft.texts_len())
+            room.saturating_add(draft.text.len())
         })
 }
 

@@ -2,59 +2,17 @@
 ghost use Rattle.std.specs.Prelude.{◌≡◌, ◌<◌, ◌+◌, ◌^◌, ℕ, length, IfOk, option_map};
 ghost use Rattle.std.specs.List.{filter_map, find};
 ghost use Rattle.std.specs.Option.{option_map_or};
+ghost use Rattle.std.specs.Ordering.{nat_cmp};
+ghost use Rattle.std.specs.Cmp.Lexicographic.{slice_cmp};
 ghost use Rattle.std.specs.List.Sorted.{IsPermutation, IsSortedBy};
 ghost use Rattle.catalogue.specs.Drafts.{comes_before, drafts_entries, header_text_in, kept_entry, outline};
 ghost use Rattle.catalogue.specs.Drafts.{outline_cmp, outline_if, outline_text, outlines, FirstRepeat};
 ghost use Rattle.catalogue.specs.Drafts as Drafts;
 
-use crate::texts::{Share, Standing, Texts, split_kept};
-use byte_text::LongKey;
+use crate::draft::Draft;
+use crate::texts::Standing;
 use mo_image::{EntryList, EntryStrings, split_form};
 use std::cmp::Ordering;
-use std::mem::size_of;
-
-/// An entry that was read. It borrows its texts and is small, since drafts are moved when they are sorted.
-#[derive(Drop)]
-pub(crate) struct Draft<'a> {
-    /// The entry's key.
-    pub(crate) key: LongKey<'a>,
-    /// What is kept of the entry besides its key: its forms, with NUL between them, and before them its plural and a
-    /// NUL, if it has one.
-    pub(crate) kept: &'a str,
-    /// The index of the entry in the PO text.
-    pub(crate) number: usize,
-    pub(crate) line: u32,
-    pub(crate) share: Share,
-    pub(crate) standing: Standing,
-}
-
-// A larger draft makes the compiler slower.
-const _: () = prove!(size_of::<Draft<'_>>() == 64);
-
-impl<'a> Draft<'a> {
-    ghost use Rattle.std.specs.Prelude.{is_some};
-    ghost use Rattle.catalogue.specs.Shares.{kept_texts};
-
-    /// Whether the entry is kept.
-    pub(crate) fn is_kept(&self) -> bool
-        ensures { result ≡ is_some (outline self.now).texts }
-    {
-        self.share != Share::Dropped
-    }
-
-    /// The texts that are kept besides the key, or `None` if the entry isn't kept.
-    #[inline(always)]
-    fn texts(&self) -> Option<Texts<'a>>
-        ensures { option_map kept_texts result ≡ (outline self.now).texts }
-    {
-        split_kept(self.share, self.kept)
-    }
-
-    /// The length in bytes of the key and of what is kept besides it.
-    pub(crate) fn texts_len(&self) -> usize {
-        self.key.as_str().len().saturating_add(self.kept.len())
-    }
-}
 
 /// Whether a draft has this standing.
 pub(crate) fn counts_as(draft: &Draft<'_>, standing: Standing) -> bool
@@ -103,11 +61,21 @@ pub(crate) fn header_text<'a>(drafts: &[Draft<'a>]) -> Option<&'a str>
     }
 }
 
+/// Compares two drafts by key.
+fn compare_keys(a: &Draft<'_>, b: &Draft<'_>) -> Ordering
+    ensures { result ≡ slice_cmp nat_cmp (outline a.now).key (outline b.now).key }
+{
+    if a.front == b.front && a.next != b.next {
+        return a.next.cmp(&b.next);
+    }
+    a.fronted_key().cmp(&b.fronted_key())
+}
+
 /// Compares two drafts by key, and those with equal keys by their order in the PO text.
 fn compare(a: &Draft<'_>, b: &Draft<'_>) -> Ordering
     ensures { result ≡ outline_cmp (outline a.now) (outline b.now) }
 {
-    a.key.cmp(&b.key).then(a.number.cmp(&b.number))
+    compare_keys(a, b).then(a.number.cmp(&b.number))
 }
 
 /// Sorts the drafts by key; those with equal keys stay in the order of the PO text.
@@ -137,7 +105,7 @@ fn earlier<'d, 'a>(
     ensures { outline_if result ≡ Drafts.earlier_repeat (outline before.now) (outline draft.now)
         (outline_if first.entry) }
 {
-    if before.key == draft.key && is_earlier(draft, first) {
+    if before.fronted_key() == draft.fronted_key() && is_earlier(draft, first) {
         Some(draft)
     } else {
         first
@@ -181,8 +149,8 @@ impl<'a> EntryList for KeptDrafts<'a> {
     fn strings_at(&self, i: usize) -> EntryStrings<'_> {
         let draft = &self.drafts[i];
         match draft.texts() {
-            Some(texts) => EntryStrings::new(draft.key.as_str(), texts.plural, texts.translation),
-            None => EntryStrings::new(draft.key.as_str(), None, ""),
+            Some(texts) => EntryStrings::new(draft.key(), texts.plural, texts.translation),
+            None => EntryStrings::new(draft.key(), None, ""),
         }
     }
 }

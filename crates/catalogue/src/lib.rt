@@ -6,8 +6,10 @@
 
 mod collect;
 mod compiler;
+mod draft;
 mod drafts;
 mod law;
+mod pool;
 mod texts;
 
 pub use catalogue_map::{Catalogue, Found, Message, counted, first_form, untranslated};

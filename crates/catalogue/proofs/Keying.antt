@@ -1,0 +1,53 @@
+-- Texts that begin with a key.
+use Rattle.catalogue.proofs.Kit.{◌≡◌, ℕ, zero, suc, ◌+◌, ◌<◌, ◌^◌, List, ◌++◌, length, take, refl, sym, ap, ◌∙◌}
+use Rattle.catalogue.proofs.Kit.{subst, arith}
+use Rattle.std.specs.Prelude.{◌*◌, drop, slice_index}
+use Rattle.std.specs.Str.{IsUtf8, IsCharBoundary}
+use Rattle.std.proofs.lemmas.List.{get_or-drop, take_at}
+use Rattle.std.proofs.lemmas.Str.{IsCharBoundary-at_seam}
+use Rattle.byteorder.specs.Endian.{big_from}
+use Rattle.byte_text.specs.Front.{leading, HaveOneFront, IsFrontOf}
+use Rattle.catalogue.specs.Keyed.{IsKeyed}
+
+-- ---- the number after the first eight bytes
+
+next_index : (i : ℕ) → 8 + suc i ≡ suc (8 + i)
+next_index i = omega arith
+
+pub later_from : (i n : ℕ) (bytes : List ℕ) → big_from i n (drop 8 bytes) ≡ big_from (8 + i) n bytes
+later_from i zero bytes = refl
+later_from i (suc n) bytes = omega (
+  arith,
+  ap (λ b. b * 256 ^ n) (get_or-drop 8 bytes i 0),
+  later_from (suc i) n bytes,
+  ap (λ j. big_from j n bytes) (next_index i),
+)
+
+pub next_is : (bytes : List ℕ) (n : ℕ) → n ≡ big_from 0 8 (drop 8 bytes) → ((k : ℕ) → slice_index bytes k < 256)
+    → IsFrontOf (drop 8 bytes) n
+unfolding leading
+next_is bytes n is small = record {
+  number = is;
+  bytes = λ k. subst (λ b. b < 256) (sym (get_or-drop 8 bytes k 0)) (small (8 + k));
+}
+
+-- ---- the key and what follows it
+
+pub is_keyed : (text key kept : List ℕ) (n front next : ℕ) → text ≡ key ++ kept → n ≡ length key → IsUtf8 kept
+    → IsFrontOf key front → IsFrontOf (drop 8 key) next → IsKeyed text n front next
+is_keyed text key kept n front next joined long utf8 first later =
+    let same : take n text ≡ key = rw (joined, long) (take_at key kept (length key) refl) in
+    record {
+      ends = subst (IsCharBoundary text) (sym long) (IsCharBoundary-at_seam text key kept joined utf8);
+      front_is = subst (λ (k : List ℕ). IsFrontOf k front) (sym same) first;
+      next_is = subst (λ (k : List ℕ). IsFrontOf (drop 8 k) next) (sym same) later;
+    }
+
+-- ---- the order of keys
+
+pub one_front : (key other : List ℕ) (m n : ℕ) → IsFrontOf key m → IsFrontOf other n → m ≡ n → HaveOneFront key other
+one_front key other m n a b same = record {
+  number = sym a.number ∙ same ∙ b.number;
+  bytes = a.bytes;
+  other_bytes = b.bytes;
+}

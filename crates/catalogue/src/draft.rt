@@ -1,0 +1,112 @@
+//! An entry that was read, before the entries are sorted.
+ghost use Rattle.std.specs.Prelude.{◌≡◌, drop, slice_index};
+ghost use Rattle.byte_text.specs.Front.{IsFrontOf};
+ghost use Rattle.catalogue.specs.Keyed.{IsKeyed};
+
+use crate::texts::{Share, Standing, Texts, split_kept};
+use byte_text::TextKey;
+use byteorder::{BigEndian, ByteOrder};
+use std::mem::size_of;
+
+/// An entry that was read. It borrows its text and is small, since drafts are moved when they are sorted.
+#[derive(Drop)]
+pub(crate) struct Draft<'a> {
+    /// The entry's key, followed by what is kept of the entry besides it: its forms, with NUL between them, and before
+    /// them its plural and a NUL, if it has one.
+    pub(crate) text: &'a str,
+    /// The first eight bytes of the key as a big-endian number. Two keys are mostly told apart by this number and the
+    /// next one, without reading the texts.
+    pub(crate) front: u64,
+    /// The eight bytes of the key after those, as such a number.
+    pub(crate) next: u64,
+    /// The length of the key in bytes.
+    pub(crate) key_len: u32,
+    /// The index of the entry in the PO text.
+    pub(crate) number: u32,
+    pub(crate) line: u32,
+    pub(crate) share: Share,
+    pub(crate) standing: Standing,
+    ghost keyed: { IsKeyed text.now key_len front next },
+}
+
+// A larger draft makes the compiler slower.
+const _: () = prove!(size_of::<Draft<'_>>() == 48);
+
+/// The byte of a key at index `i`; 0 if the key is too short.
+fn byte_at(bytes: &[u8], i: usize) -> u8
+    ensures { result ≡ slice_index bytes.now i }
+{
+    if i < bytes.len() { bytes[i] } else { 0 }
+}
+
+/// The front of what follows the first eight bytes.
+fn next_in(bytes: &[u8]) -> u64
+    ensures { IsFrontOf (drop 8 bytes.now) result }
+{
+    if bytes.len() >= 16 {
+        return BigEndian::read_u64(&bytes[8..]);
+    }
+    let later = [
+        byte_at(bytes, 8),
+        byte_at(bytes, 9),
+        byte_at(bytes, 10),
+        byte_at(bytes, 11),
+        byte_at(bytes, 12),
+        byte_at(bytes, 13),
+        byte_at(bytes, 14),
+        byte_at(bytes, 15),
+    ];
+    BigEndian::read_u64(&later)
+}
+
+/// The front of what follows a key's first eight bytes.
+pub(crate) fn next_of(key: &str) -> u64
+    ensures { IsFrontOf (drop 8 key.now) result }
+{
+    next_in(key.as_bytes())
+}
+
+impl<'a> Draft<'a> {
+    ghost use Rattle.std.specs.Prelude.{is_some, option_map};
+    ghost use Rattle.catalogue.specs.Drafts.{kept_in, outline};
+    ghost use Rattle.catalogue.specs.Shares.{kept_texts};
+
+    /// The entry's key.
+    #[inline(always)]
+    pub(crate) fn key(&self) -> &'a str
+        ensures { result.now ≡ (outline self.now).key }
+    {
+        &self.text[..self.key_len as usize]
+    }
+
+    /// The entry's key with its front.
+    #[inline(always)]
+    pub(crate) fn fronted_key(&self) -> TextKey<'a>
+        ensures { result ≡ (outline self.now).key }
+    {
+        TextKey::with_front(self.key(), self.front)
+    }
+
+    /// What is kept of the entry besides its key.
+    #[inline(always)]
+    fn kept(&self) -> &'a str
+        ensures { result.now ≡ kept_in self.now }
+    {
+        &self.text[self.key_len as usize..]
+    }
+
+    /// Whether the entry is kept.
+    pub(crate) fn is_kept(&self) -> bool
+        ensures { result ≡ is_some (outline self.now).texts }
+    {
+        self.share != Share::Dropped
+    }
+
+    /// The texts that are kept besides the key, or `None` if the entry isn't kept.
+    #[inline(always)]
+    pub(crate) fn texts(&self) -> Option<Texts<'a>>
+        ensures { option_map kept_texts result ≡ (outline self.now).texts }
+    {
+        split_kept(self.share, self.kept())
+    }
+}

@@ -1,0 +1,67 @@
+//! Texts that are made one after another in blocks of an arena, which costs less than asking the arena for each.
+ghost use Rattle.std.specs.Prelude.{◌≡◌, ◌≤◌, ◌++◌, length, IfOk, OnOk};
+ghost use Rattle.std.specs.Str.{IsUtf8};
+
+use bumpalo::Bump;
+use std::alloc::AllocError;
+use std::mem;
+
+/// The least number of bytes that are taken from the arena at once. They are cleared first, and so few are still in the
+/// processor's cache when texts are written over them.
+const BLOCK_LEN: usize = 2000;
+
+/// An arena, and the bytes of its latest block that are still free.
+#[derive(Drop)]
+pub(crate) struct Pool<'a> {
+    arena: &'a Bump,
+    free: &'a mut [u8],
+}
+
+impl<'a> Pool<'a> {
+    /// An empty pool; allocates nothing.
+    pub(crate) fn new(arena: &'a Bump) -> Pool<'a> {
+        Pool {
+            arena,
+            free: &mut [],
+        }
+    }
+
+    /// Begins a block of at least this many bytes.
+    #[cold]
+    #[inline(never)]
+    fn refill(&mut self, len: usize) -> Result<(), AllocError>
+        ensures { OnOk result (len ≤ length self.new.free.now) }
+    {
+        self.free = self
+            .arena
+            .try_alloc_slice_fill_clone(len.max(BLOCK_LEN), 0u8)?;
+        Ok(())
+    }
+
+    /// Takes this many bytes, which may have any values.
+    fn take(&mut self, len: usize) -> Result<&'a mut [u8], AllocError>
+        ensures { IfOk result (λ bytes. length bytes.now ≡ len) }
+    {
+        if self.free.len() < len {
+            self.refill(len)?;
+        }
+        let (bytes, rest) = mem::take(&mut self.free).split_at_mut(len);
+        self.free = rest;
+        Ok(bytes)
+    }
+
+    /// Copies a key and what is kept besides it, as one text.
+    pub(crate) fn join(&mut self, key: &str, kept: &str) -> Result<&'a str, AllocError>
+        ensures joined { IfOk result (λ text. text.now ≡ key.now ++ kept.now) }
+        ensures utf8 { OnOk result (IsUtf8 kept.now) }
+    {
+        let Some(len) = key.len().checked_add(kept.len()) else {
+            return Err(AllocError);
+        };
+        let bytes = self.take(len)?;
+        let (front, rest) = bytes.split_at_mut(key.len());
+        front.copy_from_slice(key.as_bytes());
+        rest.copy_from_slice(kept.as_bytes());
+        Ok(unsafe { str::from_utf8_unchecked(bytes) })
+    }
+}
