@@ -4,7 +4,7 @@ ghost use Rattle.std.specs.Ordering.{nat_cmp};
 ghost use Rattle.std.specs.Cmp.{partial_equiv_from_equiv};
 ghost use Rattle.std.specs.Cmp.Lexicographic.{nat_list_cmp_total, nat_list_eq_equiv, slice_cmp, texts_po, texts_ties};
 ghost use Rattle.std.specs.Str.{bytes_eq};
-ghost use Rattle.byte_text.specs.Front.{HaveOneFront, IsFrontOf};
+ghost use Rattle.byte_text.specs.Front.{IsFrontOf};
 
 use byteorder::{BigEndian, ByteOrder};
 use std::cmp::Ordering;
@@ -76,8 +76,9 @@ pub fn front_of(text: &str) -> u64
     front_in(text.as_bytes())
 }
 
-/// The front of what follows a text's first eight bytes.
-pub(crate) fn next_of(text: &str) -> u64
+/// The front of what follows a text's first eight bytes. Few texts with equal fronts have this number in common, too, so
+/// sixteen bytes tell nearly all apart without reading the texts, which may be in no cache.
+pub fn next_front_of(text: &str) -> u64
     ensures { IsFrontOf (drop 8 text.now) result }
 {
     let bytes = text.as_bytes();
@@ -108,13 +109,6 @@ impl<'a> TextKey<'a> {
         ensures { result.now ≡ self.now }
     {
         self.text
-    }
-
-    /// Whether two texts have equal fronts.
-    pub(crate) fn has_front_of(&self, other: &TextKey<'_>) -> bool
-        ensures { IsTrue result → HaveOneFront self.now other.now }
-    {
-        self.front == other.front
     }
 }
 

@@ -4,10 +4,8 @@
 
 mod cut;
 mod key;
-mod long;
 mod offset;
 
 pub use cut::{lacks_byte, offset_of, split_at_byte, split_at_offset, split_byte};
-pub use key::{TextKey, front_of};
-pub use long::LongKey;
+pub use key::{TextKey, front_of, next_front_of};
 pub use offset::first_set;

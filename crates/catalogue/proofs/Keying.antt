@@ -9,28 +9,6 @@ use Rattle.byteorder.specs.Endian.{big_from}
 use Rattle.byte_text.specs.Front.{leading, HaveOneFront, IsFrontOf}
 use Rattle.catalogue.specs.Keyed.{IsKeyed}
 
--- ---- the number after the first eight bytes
-
-next_index : (i : ℕ) → 8 + suc i ≡ suc (8 + i)
-next_index i = omega arith
-
-pub later_from : (i n : ℕ) (bytes : List ℕ) → big_from i n (drop 8 bytes) ≡ big_from (8 + i) n bytes
-later_from i zero bytes = refl
-later_from i (suc n) bytes = omega (
-  arith,
-  ap (λ b. b * 256 ^ n) (get_or-drop 8 bytes i 0),
-  later_from (suc i) n bytes,
-  ap (λ j. big_from j n bytes) (next_index i),
-)
-
-pub next_is : (bytes : List ℕ) (n : ℕ) → n ≡ big_from 0 8 (drop 8 bytes) → ((k : ℕ) → slice_index bytes k < 256)
-    → IsFrontOf (drop 8 bytes) n
-unfolding leading
-next_is bytes n is small = record {
-  number = is;
-  bytes = λ k. subst (λ b. b < 256) (sym (get_or-drop 8 bytes k 0)) (small (8 + k));
-}
-
 -- ---- the key and what follows it
 
 pub is_keyed : (text key kept : List ℕ) (n front next : ℕ) → text ≡ key ++ kept → n ≡ length key → IsUtf8 kept

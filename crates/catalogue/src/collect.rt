@@ -11,11 +11,11 @@ ghost use Rattle.catalogue.specs.Shares.{texts_by};
 ghost use Rattle.catalogue.specs.Reading.{IsReadOf};
 ghost use Rattle.po_checks.specs.Refusal.{out_of_memory};
 
-use crate::draft::{Draft, next_of};
+use crate::draft::Draft;
 use crate::pool::Pool;
 use crate::texts::{Share, Standing};
 use bumpalo::Bump;
-use byte_text::front_of;
+use byte_text::{front_of, next_front_of};
 use mo_image::{push_form, push_key};
 use po_checks::{Findings, LoadFault, Options, is_header, is_untranslated};
 use po_text::{EntryBuffer, open_text};
@@ -148,7 +148,7 @@ fn draft_in<'a>(
     Ok(Draft {
         text: pool.join(key, kept)?,
         front: front_of(key),
-        next: next_of(key),
+        next: next_front_of(key),
         key_len: word_of(key.len())?,
         number: word_of(number)?,
         line: entry.line(),

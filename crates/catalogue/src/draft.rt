@@ -1,11 +1,9 @@
 //! An entry that was read, before the entries are sorted.
-ghost use Rattle.std.specs.Prelude.{◌≡◌, drop, slice_index};
-ghost use Rattle.byte_text.specs.Front.{IsFrontOf};
+ghost use Rattle.std.specs.Prelude.{◌≡◌};
 ghost use Rattle.catalogue.specs.Keyed.{IsKeyed};
 
 use crate::texts::{Share, Standing, Texts, split_kept};
 use byte_text::TextKey;
-use byteorder::{BigEndian, ByteOrder};
 use std::mem::size_of;
 
 /// An entry that was read. It borrows its text and is small, since drafts are moved when they are sorted.
@@ -31,40 +29,6 @@ pub(crate) struct Draft<'a> {
 
 // A larger draft makes the compiler slower.
 const _: () = prove!(size_of::<Draft<'_>>() == 48);
-
-/// The byte of a key at index `i`; 0 if the key is too short.
-fn byte_at(bytes: &[u8], i: usize) -> u8
-    ensures { result ≡ slice_index bytes.now i }
-{
-    if i < bytes.len() { bytes[i] } else { 0 }
-}
-
-/// The front of what follows the first eight bytes.
-fn next_in(bytes: &[u8]) -> u64
-    ensures { IsFrontOf (drop 8 bytes.now) result }
-{
-    if bytes.len() >= 16 {
-        return BigEndian::read_u64(&bytes[8..]);
-    }
-    let later = [
-        byte_at(bytes, 8),
-        byte_at(bytes, 9),
-        byte_at(bytes, 10),
-        byte_at(bytes, 11),
-        byte_at(bytes, 12),
-        byte_at(bytes, 13),
-        byte_at(bytes, 14),
-        byte_at(bytes, 15),
-    ];
-    BigEndian::read_u64(&later)
-}
-
-/// The front of what follows a key's first eight bytes.
-pub(crate) fn next_of(key: &str) -> u64
-    ensures { IsFrontOf (drop 8 key.now) result }
-{
-    next_in(key.as_bytes())
-}
 
 impl<'a> Draft<'a> {
     ghost use Rattle.std.specs.Prelude.{is_some, option_map};
