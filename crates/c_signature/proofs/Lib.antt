@@ -4,4 +4,5 @@ pub mod DirectiveLemmas
 pub mod PlainDirectives
 pub mod RequestLemmas
 pub mod FormatLemmas
+pub mod PairLemmas
 pub mod OneOutcome

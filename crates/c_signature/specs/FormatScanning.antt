@@ -1,9 +1,10 @@
 -- Private: what the readers of directives and of numbers guarantee to one another.
-use Rattle.std.specs.Prelude.{◌≡◌, ℕ, ◌≤◌, true, List, [], ◌∷◌, ◌++◌, length, Option, None, Some}
+use Rattle.std.specs.Prelude.{◌≡◌, ℕ, ◌≤◌, true, List, [], ◌∷◌, ◌++◌, length, map, Option, None, Some}
+use Rattle.c_signature.specs.declared.ArgKind.{ArgKind}
 use Rattle.c_signature.specs.declared.FormatFault.{FormatFault}
 use Rattle.c_signature.specs.declared.FormatFault.TheVariants.{Invalid, SystemDependent, Memory}
 use Rattle.c_signature.specs.declared.directives.Directive as code_directive
-use Rattle.c_signature.specs.Signature.{Request, amount_requests, argument_requests, requests}
+use Rattle.c_signature.specs.Signature.{Request, request, amount_requests, argument_requests, requests}
 use Rattle.c_signature.specs.Directives.{Directive, DirectiveAt, IsUnreadable, NamesMacro}
 use Rattle.c_signature.specs.Pieces.{is_first_digit, IsNumeral}
 use Rattle.c_signature.specs.Readers.{amount_view, argument_view}
@@ -16,6 +17,11 @@ abbrev pub asked_by : code_directive.Directive → List Request
 asked_by d =
     amount_requests (amount_view d.width) ++ amount_requests (amount_view d.precision)
     ++ argument_requests d.number (argument_view d.argument)
+
+-- both are requests for the same arguments, none of them by a number
+abbrev pub AskSame : List Request → List Request → Type 0
+AskSame asked others = (kinds : List ArgKind) × (asked ≡ map (λ kind. request None kind) kinds)
+    × (others ≡ map (λ kind. request None kind) kinds)
 
 -- text is a directive that asks for this, followed by rest
 abbrev pub ReadsDirective : code_directive.Directive → List ℕ → List ℕ → Type 0

@@ -97,6 +97,10 @@ abbrev pub Lists : List ℕ → List ArgKind → Type 0
 Lists text kinds =
     (directives : List Directive) × IsFormat text directives × AsksFor (flat_map requests directives) kinds
 
+-- both texts are formats with the same arguments
+abbrev pub TakeSame : List ℕ → List ℕ → Type 0
+TakeSame first second = (kinds : List ArgKind) × Lists first kinds × Lists second kinds
+
 -- the first directive that can't be read names no macro, or all can be read but what they ask for has no list
 abbrev pub IsInvalid : List ℕ → Type 0
 IsInvalid text = ((stop : List ℕ) × StopsAt text stop × ¬ NamesMacro stop)

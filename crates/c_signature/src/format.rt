@@ -11,7 +11,7 @@ use byte_text::offset_of;
 use std::alloc::Global;
 
 /// What follows the next `%`, if there is one.
-fn next_directive(text: &[u8]) -> Option<&[u8]>
+pub(crate) fn next_directive(text: &[u8]) -> Option<&[u8]>
     ensures { MatchOption result (SkipsPlain text.now [])
         (λ rest. SkipsPlain text.now (percent ∷ rest.now)) }
 {

@@ -12,6 +12,7 @@ mod agreement;
 mod conversions;
 mod directives;
 mod format;
+mod pairs;
 mod parts;
 mod requests;
 
@@ -19,6 +20,7 @@ pub use agreement::agrees;
 pub use conversions::{Argument, argument_of};
 pub use directives::{has_macros, is_allowed, split_name};
 pub use format::{one_outcome, signature};
+pub use pairs::have_same_arguments;
 pub use parts::{
     Amount, Modifier, read_modifier, read_number, read_precision, read_width, split_flags,
 };

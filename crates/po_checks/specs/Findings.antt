@@ -45,6 +45,10 @@ abbrev pub DiffersFrom : Format → Strictness → List ℕ → Type 0
 DiffersFrom (Arguments kinds) rule form = Differs kinds.items rule form
 DiffersFrom _ rule form = ⊥
 
+-- it isn't known that the text takes the arguments of the msgid
+abbrev pub Strays : List ℕ → List ℕ → Type 0
+Strays id text = ¬ signature.TakeSame id text
+
 -- a plural entry with this number of forms was added at this line
 pub record AddsPlural (old new : Plurals) (forms line : ℕ) : Type 0 where
   pub first : line_of new.first ≡ first_or (line_of old.first) true line

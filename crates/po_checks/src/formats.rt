@@ -2,10 +2,10 @@
 ghost use Rattle.std.specs.Prelude.{◌≡◌, ◌⊎◌, ◌↔◌, ◌||◌, false, IsTrue, IfOk, IfErr};
 ghost use Rattle.std.specs.List.{Any};
 ghost use Rattle.c_signature.specs.Signature.{IsSystemDependent};
-ghost use Rattle.po_checks.specs.Checks.{texts, FormsDiffer, HasOtherArguments, HasSystemDependentText};
-ghost use Rattle.po_checks.specs.Findings.{is_dependent, DiffersFrom, FormatsDiffer, IsReadAs};
+ghost use Rattle.po_checks.specs.Checks.{text_if, texts, FormsDiffer, HasOtherArguments, HasSystemDependentText};
+ghost use Rattle.po_checks.specs.Findings.{is_dependent, DiffersFrom, FormatsDiffer, IsReadAs, Strays};
 
-use c_signature::{ArgKind, FormatFault, Strictness, agrees, signature};
+use c_signature::{ArgKind, FormatFault, Strictness, agrees, have_same_arguments, signature};
 use po_text::EntryBuffer;
 use std::alloc::{AllocError, Global};
 
@@ -111,6 +111,41 @@ fn form_faults(
     Ok(faults)
 }
 
+/// Whether the `msgid_plural`, if there is one, takes the arguments of the `msgid`. `false` says nothing.
+fn plural_is_same(entry: &EntryBuffer) -> bool
+    ensures { IsTrue result → ¬ Any (Strays entry.now.id) (text_if entry.now.plural) }
+{
+    match entry.plural() {
+        Some(plural) => have_same_arguments(entry.id(), plural),
+        None => true,
+    }
+}
+
+/// Whether all forms take the arguments of the `msgid`. `false` says nothing.
+fn forms_are_same(entry: &EntryBuffer) -> bool
+    ensures { IsTrue result → ¬ Any (Strays entry.now.id) entry.now.forms }
+{
+    let id = entry.id();
+    'forms: for k in 0..entry.form_count() {
+        if !have_same_arguments(id, entry.form(k)) {
+            return false;
+        }
+    }
+    true
+}
+
+/// Whether all texts of an entry are formats with the same arguments, as in most entries. No memory is allocated to
+/// find out. `false` says nothing.
+fn texts_are_same(entry: &EntryBuffer) -> bool
+    ensures dependent { IsTrue result → ¬ Any IsSystemDependent (texts entry.now) }
+    ensures mismatch { IsTrue result → ¬ FormsDiffer entry.now }
+{
+    if entry.form_count() == 0 || !plural_is_same(entry) {
+        return false;
+    }
+    forms_are_same(entry)
+}
+
 /// Checks the formats of an entry that is flagged `c-format`.
 fn flagged_faults(alloc: Global, entry: &EntryBuffer) -> Result<FormatFindings, AllocError>
     ensures dependent { IfOk result
@@ -139,5 +174,9 @@ pub(crate) fn format_faults(
     if !entry.is_c_format() {
         return Ok(FormatFindings::none());
     }
-    flagged_faults(alloc, entry)
+    if texts_are_same(entry) {
+        Ok(FormatFindings::none())
+    } else {
+        flagged_faults(alloc, entry)
+    }
 }
