@@ -68,6 +68,7 @@ fn alone(modifier: Modifier, argument: Argument) -> Argument
 }
 
 /// The argument that a conversion takes with this length modifier (C standard, 7.21.6.1, 7 and 8).
+#[inline(always)]
 pub fn argument_of(conversion: u8, modifier: Modifier) -> Argument
     ensures { argument_view result ≡ table.argument_of conversion (modifier_view modifier) }
 {

@@ -81,6 +81,7 @@ pub fn is_allowed(argument: Argument, number: Option<u32>) -> bool
 
 /// Reads a directive that is only a conversion, as in `%s` or `%%`. No conversion begins another part of a directive
 /// (C standard, 7.21.6.1, 4). `None` says nothing about the text.
+#[inline(always)]
 fn read_plain(text: &[u8]) -> Option<(Directive, &[u8])>
     ensures { IfSome result (λ found. ReadsDirective found.0 (percent ∷ text.now) found.1.now) }
 {
@@ -100,6 +101,7 @@ fn read_plain(text: &[u8]) -> Option<(Directive, &[u8])>
 
 /// Reads a directive part by part, from after its `%`. If it can't be read, the fault is `SystemDependent` for a macro,
 /// else `Invalid`.
+#[inline(never)]
 fn read_parts(text: &[u8]) -> Result<(Directive, &[u8]), FormatFault>
     ensures ok { IfOk result (λ found. ReadsDirective found.0 (percent ∷ text.now) found.1.now) }
     ensures err { IfErr result (λ fault. Refuses fault (percent ∷ text.now)) }
@@ -130,6 +132,7 @@ fn read_parts(text: &[u8]) -> Result<(Directive, &[u8]), FormatFault>
 
 /// Reads a directive, from after its `%`. If it can't be read, the fault is `SystemDependent` for a macro, else
 /// `Invalid`.
+#[inline(always)]
 pub(crate) fn read_directive(text: &[u8]) -> Result<(Directive, &[u8]), FormatFault>
     ensures ok { IfOk result (λ found. ReadsDirective found.0 (percent ∷ text.now) found.1.now) }
     ensures err { IfErr result (λ fault. Refuses fault (percent ∷ text.now)) }
