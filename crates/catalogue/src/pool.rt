@@ -1,14 +1,17 @@
 //! Texts that are made one after another in blocks of an arena, which costs less than asking the arena for each.
-ghost use Rattle.std.specs.Prelude.{◌≡◌, ◌≤◌, ◌++◌, length, IfOk, OnOk};
+ghost use Rattle.std.specs.Prelude.{◌≡◌, ◌++◌, length, IfOk, OnOk};
 ghost use Rattle.std.specs.Str.{IsUtf8};
 
 use bumpalo::Bump;
 use std::alloc::AllocError;
 use std::mem;
 
-/// The least number of bytes that are taken from the arena at once. They are cleared first, and so few are still in the
-/// processor's cache when texts are written over them.
+/// The length of a block. It is cleared first, and so few bytes are still in the processor's cache when texts are
+/// written over them.
 const BLOCK_LEN: usize = 2000;
+
+/// A longer text that doesn't fit into the block gets memory of its own, so that the rest of the block isn't lost.
+const MOST_IN_NEXT: usize = 250;
 
 /// An arena, and the bytes of its latest block that are still free.
 #[derive(Drop)]
@@ -26,16 +29,13 @@ impl<'a> Pool<'a> {
         }
     }
 
-    /// Begins a block of at least this many bytes.
+    /// Asks the arena for this many bytes.
     #[cold]
     #[inline(never)]
-    fn refill(&mut self, len: usize) -> Result<(), AllocError>
-        ensures { OnOk result (len ≤ length self.new.free.now) }
+    fn fresh(&self, len: usize) -> Result<&'a mut [u8], AllocError>
+        ensures { IfOk result (λ bytes. length bytes.now ≡ len) }
     {
-        self.free = self
-            .arena
-            .try_alloc_slice_fill_clone(len.max(BLOCK_LEN), 0u8)?;
-        Ok(())
+        self.arena.try_alloc_slice_fill_clone(len, 0u8)
     }
 
     /// Takes this many bytes, which may have any values.
@@ -43,7 +43,10 @@ impl<'a> Pool<'a> {
         ensures { IfOk result (λ bytes. length bytes.now ≡ len) }
     {
         if self.free.len() < len {
-            self.refill(len)?;
+            if len > MOST_IN_NEXT {
+                return self.fresh(len);
+            }
+            self.free = self.fresh(BLOCK_LEN)?;
         }
         let (bytes, rest) = mem::take(&mut self.free).split_at_mut(len);
         self.free = rest;
