@@ -22,7 +22,7 @@ fn passed(asked: &[Numbered]) -> u32
 }
 
 /// Whether the arguments of a translation agree with those of its original, as strictly as `rule` asks: a call has to
-/// pass as many, or, leniently, no more. An argument that no item asks for counts, too, if one with a larger number is
+/// pass as many, or, leniently, no more. An argument that no item asks for also counts if one with a larger number is
 /// asked for, since .NET ignores what a format doesn't use.
 pub fn agrees(original: &[Numbered], translation: &[Numbered], rule: Strictness) -> bool
     ensures { result ≡ spec.agree original.now translation.now rule }

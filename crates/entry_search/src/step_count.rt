@@ -5,7 +5,7 @@ use std::marker::Model;
 use std::sync::ledger::{Blank, Book, Ledger, Share};
 
 /// The number of steps that searches have taken. A step is one comparison of the key to look up with that of an entry.
-/// The count exists in contracts alone: it takes no memory and no time.
+/// The count exists only in contracts: at run time it costs nothing.
 #[derive(Drop)]
 pub struct Steps<L: Ledger> {
     book: Book<L>,

@@ -18,7 +18,7 @@
 //! 4. It applies to the spare copy what that copy lacks: first the last publish's changes, then the new ones. Readers
 //!    go on entering the shown copy. If memory runs out, readers still see what they saw, and the loads stay pending.
 //! 5. The new seal comes last. Applying it binds the batch: a compare-and-exchange raises the version word from the old
-//!    version to the new one, and the copy's `Cover` keeps the resulting `Seen`. This takes no memory, so nothing can
+//!    version to the new one, and the copy's `Cover` keeps the resulting `Seen`. It allocates nothing, so nothing can
 //!    fail after it.
 //! 6. The writer swaps the copies. A reader that enters from now on sees the whole batch; one that is already inside
 //!    keeps its version until it leaves.

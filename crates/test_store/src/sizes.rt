@@ -11,7 +11,7 @@ const SIZES: &[u64] = &[
     63, 64, 65, 127, 128, 129, 255, 256, 257, 511, 512, 513, 1023, 1024, 1025,
 ];
 
-/// The same for jobs and queries.
+/// The numbers of jobs and of queries that are tried.
 const COUNTS: &[usize] = &[63, 64, 65, 127, 128, 129];
 
 /// Loads this many times, and publishes all of it in one step. Returns whether the version rises by it.

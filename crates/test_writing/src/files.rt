@@ -14,7 +14,7 @@ const TEXT: &[u8] = b"msgid \"\"\nmsgstr \"Content-Type: text/plain; charset=UTF
     msgid \"s\"\nmsgstr \"\xc3\xa9\"\n\n\
     #, c-format\nmsgid \"n %<PRIu64>\"\nmsgstr \"%I<PRIu64> N\xc3\xa9\"\n";
 
-/// The same in another charset.
+/// These messages in ISO-8859-1.
 const LATIN: &[u8] = b"msgid \"\"\nmsgstr \"Content-Type: text/plain; charset=ISO-8859-1\\n\"\n\n\
     msgid \"s\"\nmsgstr \"\xe9\"\n\n\
     #, c-format\nmsgid \"n %<PRIu64>\"\nmsgstr \"%I<PRIu64> N\xe9\"\n";
