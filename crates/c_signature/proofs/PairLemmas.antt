@@ -5,11 +5,15 @@ use Rattle.std.specs.List.{flat_map}
 use Rattle.std.proofs.lemmas.List.{flat_map_more}
 use Rattle.c_signature.specs.declared.ArgKind.{ArgKind}
 use Rattle.c_signature.specs.declared.directives.Directive as code_directive
-use Rattle.c_signature.specs.Directives.{Directive}
-use Rattle.c_signature.specs.Signature.{Request, request, requests, Cuts, SkipsPlain, TakeSame}
-use Rattle.c_signature.specs.FormatScanning.{ReadsDirective, AskSame, asked_by}
+use Rattle.c_signature.specs.declared.Size.TheVariants.{Plain}
+use Rattle.c_signature.specs.Pieces.{Of, percent}
+use Rattle.c_signature.specs.Conversions.{Argument, Undefined, Nothing, One, argument_of}
+use Rattle.c_signature.specs.Directives.{Directive, IsAllowed}
+use Rattle.c_signature.specs.Signature.{Request, request, requests, argument_requests, Cuts, SkipsPlain, TakeSame}
+use Rattle.c_signature.specs.FormatScanning.{ReadsDirective, ReadSame, AskSame, asked_by}
 use Rattle.c_signature.proofs.RequestLemmas.{next_in_order}
 use Rattle.c_signature.proofs.FormatLemmas.{cuts_push}
+use Rattle.c_signature.proofs.PlainDirectives.{reads_plain}
 
 abbrev in_order : List ArgKind → List Request
 in_order kinds = map (λ kind. request None kind) kinds
@@ -38,22 +42,44 @@ pub record ReadBoth (first second rest others : List ℕ) : Type 0 where
   pub twin_cut : Cuts twins second others
   pub same : AskSame (flat_map requests directives) (flat_map requests twins)
 
-pub both_on : (first second rest others at beyond after over : List ℕ) (directive twin : code_directive.Directive)
-    → ReadBoth first second rest others → SkipsPlain rest at → SkipsPlain others beyond
-    → ReadsDirective directive at after → ReadsDirective twin beyond over → AskSame (asked_by directive) (asked_by twin)
+-- two directives that were read ask for the same
+pub read_same : (first second rest others : List ℕ) (directive twin : code_directive.Directive)
+    → ReadsDirective directive first rest → ReadsDirective twin second others
+    → AskSame (asked_by directive) (asked_by twin) → ReadSame first second rest others
+read_same first second rest others directive twin (d, here, is) (e, there, is_too) same = (
+  d,
+  e,
+  here,
+  there,
+  rw (is, is_too) same,
+)
+
+asks_alone : (argument : Argument) → AskSame (argument_requests None argument) (argument_requests None argument)
+asks_alone Undefined = ([], refl, refl)
+asks_alone Nothing = ([], refl, refl)
+asks_alone (One kind) = (kind ∷ [], refl, refl)
+
+-- the same conversion in both texts
+pub plain_same : (first second rest others : List ℕ) (c other : ℕ) (argument : Argument) → first ≡ c ∷ rest
+    → second ≡ other ∷ others → c ≡ other → argument ≡ argument_of c (Of Plain) → IsAllowed argument None
+    → ReadSame (percent ∷ first) (percent ∷ second) rest others
+plain_same first second rest others c other argument begins too same is allowed =
+    let (d, here, asks) = reads_plain first rest c argument begins is allowed in
+    let (e, there, asks_too) = reads_plain second others other argument too (rw (← same) is) allowed in
+    (d, e, here, there, rw (asks, asks_too) (asks_alone argument))
+
+pub both_on : (first second rest others at beyond after over : List ℕ) → ReadBoth first second rest others
+    → SkipsPlain rest at → SkipsPlain others beyond → ReadSame at beyond after over
     → ReadBoth first second after over
-both_on first second rest others at beyond after over directive twin so_far plain skips (d, here, is) (e, there, is_too)
-    same =
-    let next : AskSame (requests d) (requests e) = rw (is, is_too) same in
-    record {
-      directives = so_far.directives ++ d ∷ [];
-      twins = so_far.twins ++ e ∷ [];
-      cut = cuts_push so_far.directives d first rest at after so_far.cut plain here;
-      twin_cut = cuts_push so_far.twins e second others beyond over so_far.twin_cut skips there;
-      same = rw (← flat_map_more requests [] so_far.directives d, ← flat_map_more requests [] so_far.twins e)
-          (same_append (flat_map requests so_far.directives) (flat_map requests so_far.twins) (requests d) (requests e)
-          so_far.same next);
-    }
+both_on first second rest others at beyond after over so_far plain skips (d, e, here, there, next) = record {
+  directives = so_far.directives ++ d ∷ [];
+  twins = so_far.twins ++ e ∷ [];
+  cut = cuts_push so_far.directives d first rest at after so_far.cut plain here;
+  twin_cut = cuts_push so_far.twins e second others beyond over so_far.twin_cut skips there;
+  same = rw (← flat_map_more requests [] so_far.directives d, ← flat_map_more requests [] so_far.twins e)
+      (same_append (flat_map requests so_far.directives) (flat_map requests so_far.twins) (requests d) (requests e)
+      so_far.same next);
+}
 
 pub both_end : (first second rest others : List ℕ) → ReadBoth first second rest others → SkipsPlain rest []
     → SkipsPlain others [] → TakeSame first second

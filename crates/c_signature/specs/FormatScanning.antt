@@ -27,6 +27,11 @@ AskSame asked others = (kinds : List ArgKind) × (asked ≡ map (λ kind. reques
 abbrev pub ReadsDirective : code_directive.Directive → List ℕ → List ℕ → Type 0
 ReadsDirective directive text rest = (d : Directive) × DirectiveAt d text rest × (requests d ≡ asked_by directive)
 
+-- both texts are a directive, followed by a rest, and the two directives ask for the same
+abbrev pub ReadSame : List ℕ → List ℕ → List ℕ → List ℕ → Type 0
+ReadSame first second rest others = (d twin : Directive) × DirectiveAt d first rest × DirectiveAt twin second others
+    × AskSame (requests d) (requests twin)
+
 -- ---- numbers
 
 -- a number without a leading 0 is at the front

@@ -2,7 +2,7 @@
 ghost use Rattle.std.specs.Prelude.{◌≡◌, ◌↔◌, ◌++◌, ◌∷◌, ◌<◌, List, ℕ, IfOk, IfErr, IsTrue, length, IfSome};
 ghost use Rattle.std.specs.List.{prefix_len};
 ghost use Rattle.c_signature.specs.Directives.{BeginsMacro, IsAllowed, is_macro_conversion, is_name_byte};
-ghost use Rattle.c_signature.specs.FormatScanning.{ReadsDirective, Refuses};
+ghost use Rattle.c_signature.specs.FormatScanning.{ReadSame, ReadsDirective, Refuses};
 ghost use Rattle.c_signature.specs.Readers.{IsRun, argument_view};
 ghost use Rattle.c_signature.specs.Pieces.{percent};
 
@@ -97,6 +97,20 @@ fn read_plain(text: &[u8]) -> Option<(Directive, &[u8])>
         argument,
     };
     Some((directive, rest))
+}
+
+/// Splits off a directive that is the same conversion in both texts, without other parts. `None` says nothing.
+#[inline(always)]
+pub(crate) fn split_same<'a>(first: &'a [u8], second: &'a [u8]) -> Option<(&'a [u8], &'a [u8])>
+    ensures { IfSome result (λ rests. ReadSame (percent ∷ first.now) (percent ∷ second.now) rests.0.now rests.1.now) }
+{
+    let (conversion, rest) = split_byte(first)?;
+    let (other, others) = split_byte(second)?;
+    let argument = argument_of(conversion, Modifier::Of(Size::Plain));
+    if conversion != other || !is_allowed(argument, None) {
+        return None;
+    }
+    Some((rest, others))
 }
 
 /// Reads a directive part by part, from after its `%`. If it can't be read, the fault is `SystemDependent` for a macro,

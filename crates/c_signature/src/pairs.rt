@@ -1,11 +1,12 @@
 //! Two formats that are read side by side.
-ghost use Rattle.std.specs.Prelude.{IsTrue};
-ghost use Rattle.c_signature.specs.FormatScanning.{AskSame, asked_by};
+ghost use Rattle.std.specs.Prelude.{IsTrue, IfSome, ◌∷◌};
+ghost use Rattle.c_signature.specs.FormatScanning.{AskSame, ReadSame, asked_by};
+ghost use Rattle.c_signature.specs.Pieces.{percent};
 ghost use Rattle.c_signature.specs.Readers.{amount_view, argument_view};
 ghost use Rattle.c_signature.specs.Signature.{amount_requests, argument_requests, TakeSame};
 
 use crate::conversions::Argument;
-use crate::directives::{Directive, read_directive};
+use crate::directives::{Directive, read_directive, split_same};
 use crate::format::next_directive;
 use crate::parts::Amount;
 
@@ -46,6 +47,27 @@ fn same_directive(first: Directive, second: Directive) -> bool
     }
 }
 
+/// Reads a directive from both texts, each from after its `%`, and returns what follows them. `None` if the directives
+/// take other arguments or number one, or if one of them can't be read.
+fn split_pair<'a>(first: &'a [u8], second: &'a [u8]) -> Option<(&'a [u8], &'a [u8])>
+    ensures { IfSome result (λ rests. ReadSame (percent ∷ first.now) (percent ∷ second.now) rests.0.now rests.1.now) }
+{
+    if let Some(rests) = split_same(first, second) {
+        return Some(rests);
+    }
+    let Ok((directive, rest)) = read_directive(first) else {
+        return None
+    };
+    let Ok((other, others)) = read_directive(second) else {
+        return None
+    };
+    if same_directive(directive, other) {
+        Some((rest, others))
+    } else {
+        None
+    }
+}
+
 /// Whether two texts are C formats that take the same arguments and number none (C standard, 7.21.6.1). It reads both
 /// at once and allocates no memory. `false` says nothing: compare the lists that `signature` returns.
 pub fn have_same_arguments(first: &str, second: &str) -> bool
@@ -57,15 +79,9 @@ pub fn have_same_arguments(first: &str, second: &str) -> bool
         let Some(beyond) = next_directive(others) else {
             return false
         };
-        let Ok((directive, after)) = read_directive(behind) else {
+        let Some((after, over)) = split_pair(behind, beyond) else {
             return false
         };
-        let Ok((other, over)) = read_directive(beyond) else {
-            return false
-        };
-        if !same_directive(directive, other) {
-            return false;
-        }
         rest = after;
         others = over;
     }

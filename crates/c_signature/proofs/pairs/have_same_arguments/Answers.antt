@@ -13,10 +13,9 @@ directives-init c = rw (c.as_bytes-rest.ensures.value, c.as_bytes-others.ensures
 
 pub directives-preserved : goal.directives-preserved
 directives-preserved c =
-    both_on c.args.first.now c.args.second.now c.directives.rest.now c.directives.others.now _ _ c.in-Ok.after.now
-    c.in-Ok-read_directive.over.now c.in-Ok.directive c.in-Ok-read_directive.other c.directives.invariant
-    c.in-Some.ensures c.in-Some-next_directive.ensures c.in-Ok.ensures.ok c.in-Ok-read_directive.ensures.ok
-    (c.if-not-same_directive.ensures refl)
+    both_on c.args.first.now c.args.second.now c.directives.rest.now c.directives.others.now _ _
+    c.in-Some-split_pair.after.now c.in-Some-split_pair.over.now c.directives.invariant c.in-Some.ensures
+    c.in-Some-next_directive.ensures c.in-Some-split_pair.ensures
 
 pub returns : goal.returns
 returns c = λ e.
