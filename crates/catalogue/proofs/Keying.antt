@@ -1,12 +1,10 @@
 -- Texts that begin with a key.
-use Rattle.catalogue.proofs.Kit.{◌≡◌, ℕ, zero, suc, ◌+◌, ◌<◌, ◌^◌, List, ◌++◌, length, take, refl, sym, ap, ◌∙◌}
-use Rattle.catalogue.proofs.Kit.{subst, arith}
-use Rattle.std.specs.Prelude.{◌*◌, drop, slice_index}
+use Rattle.catalogue.proofs.Kit.{◌≡◌, ℕ, List, ◌++◌, length, take, refl, sym, ◌∙◌, subst}
+use Rattle.std.specs.Prelude.{drop}
 use Rattle.std.specs.Str.{IsUtf8, IsCharBoundary}
-use Rattle.std.proofs.lemmas.List.{get_or-drop, take_at}
+use Rattle.std.proofs.lemmas.List.{take_at}
 use Rattle.std.proofs.lemmas.Str.{IsCharBoundary-at_seam}
-use Rattle.byteorder.specs.Endian.{big_from}
-use Rattle.byte_text.specs.Front.{leading, HaveOneFront, IsFrontOf}
+use Rattle.byte_text.specs.Front.{HaveOneFront, IsFrontOf}
 use Rattle.catalogue.specs.Keyed.{IsKeyed}
 
 -- ---- the key and what follows it
