@@ -76,8 +76,8 @@ pub fn front_of(text: &str) -> u64
     front_in(text.as_bytes())
 }
 
-/// The front of what follows a text's first eight bytes. Few texts with equal fronts have this number in common, too, so
-/// sixteen bytes tell nearly all apart without reading the texts, which may be in no cache.
+/// The front of what follows a text's first eight bytes. Few texts have both numbers in common, so they tell nearly all
+/// apart without reading the texts, which may be in no cache.
 pub fn next_front_of(text: &str) -> u64
     ensures { IsFrontOf (drop 8 text.now) result }
 {
