@@ -215,7 +215,7 @@ if tests/lib/needs make make; then
       skipped "$name" 'no pkg-config'
     elif make -s install_library PREFIX="$room/a folder" DESTDIR= > "$room/log" 2>&1 &&
       PKG_CONFIG_PATH="$room/a folder/lib/pkgconfig" pkg-config --cflags --libs kobdzila > "$room/out" 2> "$room/log" &&
-      eval "set -- $(cat "$room/out")" && [ "$*" = "-I$room/a folder/include -L$room/a folder/lib -lkobdzila" ]; then
+      eval "set -- $(cat "$room/out")" && [ "$1 and $2" = "-I$room/a folder/include and -L$room/a folder/lib" ]; then
       ok "$name"
     else
       failed "$name" "$(cat "$room/log" "$room/out")"
