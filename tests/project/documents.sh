@@ -43,7 +43,7 @@ while IFS='^' read -r file from to; do
 done << 'END'
 crates/po_checks/src/fault.rt^"duplicate message"^"message twice"
 crates/po_checks/src/fault.rt^    FormCount,^    FormNumber,
-crates/po_text/src/fault.rt^#[error("bad escape")]^#[error("escape")]
+crates/po_text/src/fault.rt^"bad escape"^"escape"
 crates/mo_file/src/fault.rt^    NoNul,^    NotClosed,
 crates/script_text/src/fault.rt^#[error("no thread")]^#[error("no threads")]
 crates/msgfmt_tool/src/texts.rt^no input file given^no INPUT
