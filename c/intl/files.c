@@ -8,7 +8,6 @@
 #include <errno.h>
 #include <fcntl.h>
 #include <stdlib.h>
-#include <sys/stat.h>
 
 static struct named *files;
 
@@ -27,11 +26,11 @@ static void take(struct file *f, struct catalogue *catalogue) {
 static int may_pass(int cause) { return cause == ENOMEM || cause == EMFILE || cause == ENFILE; }
 
 static struct stamp stamp_of(const char *name) {
-    struct statx s;
-    if (statx(AT_FDCWD, name, 0, STATX_TYPE | STATX_INO | STATX_SIZE | STATX_MTIME, &s))
+    struct stat s;
+    if (!file_status(AT_FDCWD, name, &s))
         return (struct stamp){ 0 };
-    return (struct stamp){ (uint64_t)s.stx_dev_major << 32 | s.stx_dev_minor, s.stx_ino, s.stx_size,
-                           (uint64_t)s.stx_mtime.tv_sec, s.stx_mtime.tv_nsec };
+    return (struct stamp){ s.st_dev, s.st_ino, (uint64_t)s.st_size, (uint64_t)s.st_mtim.tv_sec,
+                           (uint64_t)s.st_mtim.tv_nsec };
 }
 
 static int is_same(struct stamp a, struct stamp b) {

@@ -8,11 +8,15 @@
 #include <errno.h>
 #include <fcntl.h>
 #include <pthread.h>
-#include <sys/stat.h>
+#include <sys/syscall.h>
 #include <unistd.h>
 
 #define FIRST_ROOM 65536
 #define PIECE 16384
+
+int file_status(int file, const char *name, struct stat *status) {
+    return !syscall(SYS_newfstatat, file, name, status, AT_EMPTY_PATH);
+}
 
 /* Open a file for reading, with O_CLOEXEC; -1 and errno on failure. Opening doesn't wait for a FIFO's writer, but reads
  * from the descriptor do wait. */
@@ -58,22 +62,13 @@ static unsigned char *read_all(int file, size_t room, size_t most, size_t *len) 
     return NULL;
 }
 
-/* Look at an open file: its mode and its size. False and errno on failure. With glibc's headers fstat needs its 2.33 at
- * run time, and statx 2.28; another C library may have no statx. */
+/* Look at an open file: its mode and its size. False and errno on failure. */
 static int look_at(int file, unsigned *mode, unsigned long long *size) {
-#ifdef __GLIBC__
-    struct statx status;
-    if (statx(file, "", AT_EMPTY_PATH, STATX_TYPE | STATX_SIZE, &status))
-        return 0;
-    *mode = status.stx_mode;
-    *size = status.stx_size;
-#else
     struct stat status;
-    if (fstat(file, &status))
+    if (!file_status(file, "", &status))
         return 0;
     *mode = status.st_mode;
     *size = (unsigned long long)status.st_size;
-#endif
     return 1;
 }
 

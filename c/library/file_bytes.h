@@ -3,6 +3,12 @@
 #define FILE_BYTES_H
 
 #include <stddef.h>
+#include <sys/stat.h>
+
+/* Get what fstatat(2) says of a file by its name, or of an open one if the name is empty. False and errno on failure.
+ * With glibc's headers that function needs its 2.33 at run time. A filter of system calls may be older than statx, as
+ * that of an old Docker is. */
+int file_status(int file, const char *name, struct stat *status);
 
 enum kinds_of_files { REGULAR_FILES, ALL_FILES };
 

@@ -1,4 +1,4 @@
-/* Calls libkobdzila in trouble. It is linked with the wrappers below around malloc and its kin, open and fopen
+/* Calls libkobdzila in trouble. It is linked with the wrappers below around malloc and its kin, open, fopen and statx
  * (-Wl,--wrap=malloc and so on), and run by tests/library/c_trouble.sh. It prints what is wrong, and nothing else.
  *
  *   c_trouble memory FOLDER     each call, with each of its requests for memory refused in turn
@@ -87,6 +87,13 @@ int __wrap_open(const char *name, int flags, ...) {
 FILE *__wrap_fopen(const char *name, const char *mode) {
     leaves_open |= *mode == 'r' && !strchr(mode, 'e');
     return __real_fopen(name, mode);
+}
+
+/* A filter of system calls may be older than this one, as Docker's was. */
+int __wrap_statx(int folder, const char *name, int how, unsigned wanted, void *status) {
+    (void)folder, (void)name, (void)how, (void)wanted, (void)status;
+    errno = EPERM;
+    return -1;
 }
 
 /* ---- each request refused in turn */

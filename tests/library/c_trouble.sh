@@ -14,7 +14,7 @@ fi
 trouble_files "$room"
 
 # in_trouble HOW FOLDER WORD..: the program with the library in FOLDER, started by the words; $flags are the compiler's
-wrapped=-Wl,--wrap=malloc,--wrap=calloc,--wrap=realloc,--wrap=free,--wrap=open,--wrap=fopen
+wrapped=-Wl,--wrap=malloc,--wrap=calloc,--wrap=realloc,--wrap=free,--wrap=open,--wrap=fopen,--wrap=statx
 flags=()
 in_trouble() {
   local how=$1 folder=$2 what
