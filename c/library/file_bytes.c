@@ -18,15 +18,36 @@ int file_status(int file, const char *name, struct stat *status) {
     return !syscall(SYS_newfstatat, file, name, status, AT_EMPTY_PATH);
 }
 
+/* Look at a file by its name, or at an open one without a name: its mode and its size. False and errno on failure. */
+static int look_at(int file, const char *name, unsigned *mode, unsigned long long *size) {
+    struct stat status;
+    if (!file_status(file, name, &status))
+        return 0;
+    *mode = status.st_mode;
+    *size = (unsigned long long)status.st_size;
+    return 1;
+}
+
+static int look_at_open(int file, unsigned *mode, unsigned long long *size) { return look_at(file, "", mode, size); }
+
+/* Whether a file couldn't be opened since another program has a lease on it (fcntl(2)), as a file server may, which gives
+ * it back to somebody who waits. */
+static int is_leased(const char *name) {
+    unsigned mode;
+    unsigned long long size;
+    return errno == EWOULDBLOCK && look_at(AT_FDCWD, name, &mode, &size) && S_ISREG(mode);
+}
+
 /* Open a file for reading, with O_CLOEXEC; -1 and errno on failure. Opening doesn't wait for a FIFO's writer, but reads
  * from the descriptor do wait. */
 static int open_to_read(const char *name) {
-    int file;
-    do
-        file = open(name, O_RDONLY | O_CLOEXEC | O_NOCTTY | O_NONBLOCK);
-    while (file < 0 && errno == EINTR);
-    if (file >= 0)
-        fcntl(file, F_SETFL, fcntl(file, F_GETFL) & ~O_NONBLOCK);
+    int file, how = O_RDONLY | O_CLOEXEC | O_NOCTTY | O_NONBLOCK;
+    while ((file = open(name, how)) < 0)
+        if (how & O_NONBLOCK && is_leased(name))
+            how &= ~O_NONBLOCK;
+        else if (errno != EINTR)
+            return -1;
+    fcntl(file, F_SETFL, fcntl(file, F_GETFL) & ~O_NONBLOCK);
     return file;
 }
 
@@ -62,20 +83,10 @@ static unsigned char *read_all(int file, size_t room, size_t most, size_t *len) 
     return NULL;
 }
 
-/* Look at an open file: its mode and its size. False and errno on failure. */
-static int look_at(int file, unsigned *mode, unsigned long long *size) {
-    struct stat status;
-    if (!file_status(file, "", &status))
-        return 0;
-    *mode = status.st_mode;
-    *size = (unsigned long long)status.st_size;
-    return 1;
-}
-
 unsigned char *opened_bytes(int file, enum kinds_of_files kinds, size_t most, size_t *len) {
     unsigned mode;
     unsigned long long size;
-    if (!look_at(file, &mode, &size))
+    if (!look_at_open(file, &mode, &size))
         return NULL;
     if (!S_ISREG(mode)) {
         if (kinds == ALL_FILES)
@@ -116,7 +127,7 @@ static int give_pieces(int file, size_t most, size_t *len, struct taker taker) {
 int opened_pieces(int file, size_t most, size_t *len, struct taker taker) {
     unsigned mode;
     unsigned long long size;
-    if (!look_at(file, &mode, &size))
+    if (!look_at_open(file, &mode, &size))
         return 0;
     /* files in /proc report size 0 */
     int has_size = S_ISREG(mode) && size > 0;
@@ -131,7 +142,7 @@ int opened_pieces(int file, size_t most, size_t *len, struct taker taker) {
 int is_regular(int file) {
     unsigned mode;
     unsigned long long size;
-    return look_at(file, &mode, &size) && S_ISREG(mode);
+    return look_at_open(file, &mode, &size) && S_ISREG(mode);
 }
 
 struct open_file begin_reading(const char *name) {

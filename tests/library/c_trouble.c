@@ -2,7 +2,7 @@
  * (-Wl,--wrap=malloc and so on), and run by tests/library/c_trouble.sh. It prints what is wrong, and nothing else.
  *
  *   c_trouble memory FOLDER     each call, with each of its requests for memory refused in turn
- *   c_trouble files FOLDER      FIFOs, devices, large files, no file descriptors left; errno, which free changes here
+ *   c_trouble files FOLDER      FIFOs, devices, large files, leases, no file descriptors left; errno, which free changes here
  *   c_trouble null FOLDER       NULL where the header allows it
  *
  * FOLDER has the catalogue fr/LC_MESSAGES/app.mo, which translates `a` as `b`; it is also the place for files. */
@@ -12,6 +12,7 @@
 #include <errno.h>
 #include <fcntl.h>
 #include <pthread.h>
+#include <signal.h>
 #include <stdatomic.h>
 #include <stdio.h>
 #include <stdlib.h>
@@ -484,6 +485,26 @@ static void large_files(void) {
     refuses("a file of /proc, which says that it is empty", "/proc/version", KOB_MO, KOB_MO_MAGIC, 0);
 }
 
+static int leased;
+
+static void give_back(int number) {
+    (void)number;
+    fcntl(leased, F_SETLEASE, F_UNLCK);
+}
+
+/* A file is waited for that a program, here this one, gives back as soon as it hears that somebody opens it. */
+static void leases(void) {
+    leased = open(name_of_mo, O_RDONLY | O_CLOEXEC);
+    signal(SIGIO, give_back);
+    if (!fcntl(leased, F_SETLEASE, F_WRLCK)) { /* (not on every file system) */
+        kob_catalogue *c = kob_open_file(name_of_mo, KOB_MO, 0, NULL);
+        is("a file with a lease is read", c && !strcmp(kob_gettext(c, "a"), "b"));
+        kob_release(c);
+    }
+    close(leased);
+    signal(SIGIO, SIG_DFL);
+}
+
 static void no_descriptors(void) {
     struct rlimit limit, none;
     getrlimit(RLIMIT_NOFILE, &limit);
@@ -516,6 +537,7 @@ static void files(void) {
     kob_set_release(set);
     is("a release keeps errno", errno == 77);
     no_descriptors();
+    leases();
     fifos();
     cancelled();
     texts_that_are_read_twice();
