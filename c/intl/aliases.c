@@ -6,6 +6,7 @@
 #include "file_bytes.h"
 
 #include <ctype.h>
+#include <errno.h>
 #include <stdlib.h>
 #include <string.h>
 #include <strings.h>
@@ -19,14 +20,21 @@ static int is_read;
 static void read_aliases(void) {
     size_t len = 0;
     unsigned char *bytes = file_bytes(ALIASES, REGULAR_FILES, MOST_BYTES, &len);
-    is_read = 1;
-    char *text = bytes && len <= MOST_BYTES ? realloc(bytes, len + 1) : NULL;
+    is_read = bytes ? len > MOST_BYTES : !may_pass(errno);
+    char *text = bytes && !is_read ? realloc(bytes, len + 1) : NULL;
     if (!text) {
         free(bytes);
         return;
     }
     text[len] = 0;
     lines = text;
+    is_read = 1;
+}
+
+int know_aliases(void) {
+    if (!is_read)
+        read_aliases();
+    return is_read;
 }
 
 static const char *skip_space(const char *at) {
@@ -43,8 +51,6 @@ static const char *skip_word(const char *at) {
 
 const char *alias_value(const char *name) {
     static char value[400];
-    if (!is_read)
-        read_aliases();
     size_t len = strlen(name);
     for (const char *line = lines; line && *line; line += strcspn(line, "\n"), line += *line == '\n') {
         const char *alias = skip_space(line), *end = skip_word(alias), *at = skip_space(end), *last = skip_word(at);

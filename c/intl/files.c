@@ -22,8 +22,7 @@ static void take(struct file *f, struct catalogue *catalogue) {
     f->is_shown = 0;
 }
 
-/* Whether a call failed because it ran out of something that may be available the next time. */
-static int may_pass(int cause) { return cause == ENOMEM || cause == EMFILE || cause == ENFILE; }
+int may_pass(int cause) { return cause == ENOMEM || cause == EMFILE || cause == ENFILE; }
 
 static struct stamp stamp_of(const char *name) {
     struct stat s;

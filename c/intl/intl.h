@@ -108,7 +108,10 @@ int is_secure(void);
 /* Without the lock: copy what the process's locale is called, if that wasn't done yet. */
 void know_locale(void);
 
-/* ---- aliases.c, under the lock: the locale that a name is an alias for in locale.alias; NULL if it isn't an alias. */
+/* ---- aliases.c, under the lock: whether locale.alias was read, if it can be; it is read now if it wasn't. */
+int know_aliases(void);
+
+/* Return the locale that a name is an alias for in locale.alias; NULL if it isn't an alias. */
 const char *alias_value(const char *name);
 
 /* ---- names.c: the folders that may have a locale's catalogue. */
@@ -169,6 +172,9 @@ struct file {
     unsigned number;        /* its name in the store, from 1 on; 0 if its catalogue isn't there */
     int is_shown;
 };
+
+/* Whether a call failed because it ran out of something that may be available the next time. */
+int may_pass(int cause);
 
 /* Return the file of this name, unopened if it is new; NULL if memory runs out. */
 struct file *file_of(const char *name);
@@ -281,7 +287,7 @@ struct list {
     char texts[];
 };
 
-/* Return the list for these arguments; NULL if memory runs out. It is valid until the next call. */
+/* Return the list for these arguments; NULL if memory or file descriptors run out. It is valid until the next call. */
 const struct list *list_for(const char *folder, const char *category, const char *domain, const char *languages);
 
 /* ---- recalled.c: what a thread remembers, so that its next question needs no lock. */

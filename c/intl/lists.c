@@ -85,11 +85,12 @@ static int add_languages(struct list *l, char *locale, char *room) {
     return 1;
 }
 
+/* False if memory or file descriptors ran out: what a name is an alias for isn't known then. */
 static int fill_list(struct list *l) {
     size_t most = strlen(l->languages) + MOST_ALIAS;
     size_t path = strlen(l->folder) + 2 * most + strlen(l->category) + strlen(l->domain) + 16;
     char *locale = malloc(most + 1), *room = malloc(most + 4 + path);
-    int is_filled = locale && room && add_languages(l, locale, room);
+    int is_filled = locale && room && know_aliases() && add_languages(l, locale, room);
     free(locale);
     free(room);
     return is_filled;

@@ -324,6 +324,11 @@ def system_strings(folder: Path) -> list[Case]:
     return [Case(words, {"LANGUAGE": language}) for language in ("fr", "de:fr", "fr:de")]
 
 
+def has_alias(name: str) -> bool:
+    aliases = Path("/usr/share/locale/locale.alias")
+    return aliases.exists() and any(line.split()[:1] == [name] for line in aliases.read_text("latin-1").splitlines())
+
+
 def known_differences(folder: Path) -> list[Case]:
     """Each one has its row in docs/internals/decisions/intl/differences-from-glibc.md."""
     install(folder, "fr_FR.utf8", "second", mo({b"a": b"utf8 a", b"b": b"utf8 b"}))
@@ -336,8 +341,9 @@ def known_differences(folder: Path) -> list[Case]:
         Case(["bind", "app", str(folder), "ask", "app", "b", "env", "LANGUAGE", "de", "ask", "app", "b"],
              {"LANGUAGE": "fr"}, [bound, "fr b 77", "de b 77"]),
         Case(["bind", "order", str(folder), "ask", "order", "b"], {"LANGUAGE": "fr"}, [bound, "b 77"]),
-        Case(["bind", "app", str(folder), "descriptors", "3", "ask", "app", "a", "descriptors", "9", "ask", "app", "a"],
-             {"LANGUAGE": "fr"}, [bound, "a 77", "fr a 77"]),
+        *[Case(["bind", "app", str(folder), "descriptors", "3", "ask", "app", "a", "descriptors", "9", "ask", "app", "a"],
+               {"LANGUAGE": language}, [bound, "a 77", "fr a 77"])
+          for language in ("fr", "french") if language == "fr" or has_alias(language)],
     ]
 
 
