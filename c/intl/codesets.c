@@ -89,7 +89,10 @@ static struct slot *slot_of(struct table *t, const char *text) {
 
 const char *converted(const struct codeset *codeset, const char *text) {
     struct table *t = atomic_load_explicit(&codeset->table, memory_order_acquire);
-    return t ? atomic_load_explicit(&slot_of(t, text)->as, memory_order_relaxed) : NULL;
+    struct slot *s = t ? slot_of(t, text) : NULL;
+    /* (one that was empty may get another text meanwhile) */
+    int is_there = s && atomic_load_explicit(&s->text, memory_order_acquire) == text;
+    return is_there ? atomic_load_explicit(&s->as, memory_order_relaxed) : NULL;
 }
 
 static void put(struct table *t, const char *text, const char *as) {

@@ -1,7 +1,8 @@
 #!/usr/bin/env bash
 # Asks gettext by libkobdzila-intl.so from 8 threads while two others bind text domains, one replaces a catalogue, one
 # changes the locale, one forks and one is cancelled, 200 times each (tests/intl/gettext_threads.c): as it is, with
-# AddressSanitizer and with ThreadSanitizer, these two without forks. bench/intl_threads does it for a minute.
+# AddressSanitizer and with ThreadSanitizer, these two without forks. bench/intl_threads does it for a minute. Before that,
+# texts are converted in one thread while another one asks for them (tests/intl/converted_threads.c).
 no_program=1
 . "$(dirname "$0")/../lib/common"
 . tests/lib/c_common
@@ -28,6 +29,9 @@ asks() {
   runs "$name, $how" env LC_ALL=C.UTF-8 LANGUAGE=fr ASAN_OPTIONS=detect_leaks=0:use_sigaltstack=0 \
     TSAN_OPTIONS=halt_on_error=1 "${fixed[@]}" "$room/threads_$how" "$room/one" "$room/other" 1 200
 }
+
+compiles "$name, a text that another thread converts" converted -Ic/intl tests/intl/converted_threads.c c/intl/codesets.c \
+  c/intl/named.c && runs "$name, a text that another thread converts" "$room/converted"
 
 # (ThreadSanitizer of GCC 12 can't take as many random bits in addresses as some systems have)
 fixed=(env)
