@@ -118,7 +118,7 @@ static int replace(const char *name, const char *bytes, size_t len, const struct
     return cause;
 }
 
-/* Write a device or a pipe, or with `more` O_CREAT the file that a dangling link names. */
+/* Write a device or a pipe, with `more` O_CREAT the file that a dangling link names, or with O_TRUNC an existing file. */
 static int write_through(const char *name, int more, const char *bytes, size_t len, mode_t mode) {
     int file = open(name, O_WRONLY | O_CLOEXEC | O_NOCTTY | more, mode);
     if (file < 0)
@@ -135,6 +135,11 @@ static bool leads_to_stream(const char *name) {
 
 int write_in_one_step(const char *name, const char *bytes, size_t len, mode_t mode) {
     struct stat old;
+    int open_as = descriptor_of(name); /* (a file that is open stays the one that its owner reads and writes) */
+    if (open_as == STDOUT_FILENO || open_as == STDERR_FILENO)
+        return write_all(open_as, bytes, len) ? 0 : errno;
+    if (open_as >= 0)
+        return write_through(name, O_TRUNC, bytes, len, mode);
     if (lstat(name, &old) < 0)
         return errno == ENOENT ? replace(name, bytes, len, NULL, mode) : errno;
     if (S_ISLNK(old.st_mode) && leads_to_stream(name))

@@ -149,8 +149,7 @@ _Noreturn static void end_without_gnu(struct run *run) {
 static bool is_standard_input(const char *name) { return !strcmp(name, "-") || !strcmp(name, "/dev/stdin"); }
 
 static bool is_standard_output(const char *name) {
-    return name && (!strcmp(name, "-") || !strcmp(name, "/dev/stdout") || !strcmp(name, "/dev/fd/1") ||
-                    !strcmp(name, "/proc/self/fd/1"));
+    return name && (!strcmp(name, "-") || descriptor_of(name) == STDOUT_FILENO);
 }
 
 /* Open the PO file as GNU msgfmt looks for it: in each folder of -D, under its name and with .po and .pot added. */
@@ -180,23 +179,13 @@ static bool is_null_device(const struct stat *about) {
     return S_ISCHR(about->st_mode) && about->st_rdev == makedev(1, 3);
 }
 
-/* Return the descriptor that a path such as /dev/fd/63 names, or -1. */
-static int number_of(const char *path) {
-    int number = -1, len = 0;
-    if (sscanf(path, "/dev/fd/%d%n", &number, &len) == 1 && !path[len])
-        return number;
-    if (sscanf(path, "/proc/self/fd/%d%n", &number, &len) == 1 && !path[len])
-        return number;
-    return -1;
-}
-
 /* Keep what came from a pipe so that both programs can read it, as standard input or by the descriptor's number. */
 static bool keep_input(struct run *run) {
     run->text.kept = unnamed_file();
     if (run->text.kept < 0 || !write_all(run->text.kept, run->text.bytes, run->text.len))
         return false;
     lseek(run->text.kept, 0, SEEK_SET);
-    int number = is_standard_input(run->request->inputs[0]) ? STDIN_FILENO : number_of(run->input);
+    int number = is_standard_input(run->request->inputs[0]) ? STDIN_FILENO : descriptor_of(run->input);
     if (number == STDIN_FILENO) {
         run->streams.input = run->text.kept;
         return true;

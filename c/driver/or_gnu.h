@@ -146,6 +146,8 @@ char *read_all(int descriptor, size_t *len);
 /* Like read_all, but stop once there are more than `most` bytes. */
 char *read_most(int descriptor, size_t most, size_t *len);
 bool write_all(int descriptor, const char *bytes, size_t len);
+/* Return the descriptor that a path such as /dev/stdout or /dev/fd/63 names, or -1. */
+int descriptor_of(const char *path);
 
 /* Append a line for each PO file to the log, if there is one. */
 void log_files(const struct request *request, const char *who, int status, const char *why, double milliseconds);

@@ -98,6 +98,19 @@ bool write_all(int descriptor, const char *bytes, size_t len) {
     return true;
 }
 
+int descriptor_of(const char *path) {
+    static const char *const streams[] = {"/dev/stdin", "/dev/stdout", "/dev/stderr"};
+    int number = -1, len = 0;
+    for (int stream = STDIN_FILENO; stream <= STDERR_FILENO; stream++)
+        if (!strcmp(path, streams[stream]))
+            return stream;
+    if (sscanf(path, "/dev/fd/%d%n", &number, &len) == 1 && !path[len])
+        return number;
+    if (sscanf(path, "/proc/self/fd/%d%n", &number, &len) == 1 && !path[len])
+        return number;
+    return -1;
+}
+
 /* --- running -------------------------------------------------------------------------------------------------- */
 
 static volatile sig_atomic_t child;

@@ -5,6 +5,7 @@
 #include <getopt.h>
 #include <stdlib.h>
 #include <string.h>
+#include <unistd.h>
 
 enum { NO_LETTER = 256, CHECK_DOMAIN, CHECK_FORMAT, CHECK_HEADER, ENDIANNESS, NO_CONVERT, NO_HASH, STATISTICS };
 enum { REDUNDANCY = NO_CONVERT }; /* neither matters for a UTF-8 text that Kobdzila's msgfmt compiles */
@@ -116,11 +117,6 @@ static void take(struct request *request, int code, int place, char **words) {
     }
 }
 
-/* Whether a name is that of the error output, where messages and an MO file couldn't be told apart. */
-static bool is_error_output(const char *name) {
-    return !strcmp(name, "/dev/stderr") || !strcmp(name, "/dev/fd/2") || !strcmp(name, "/proc/self/fd/2");
-}
-
 /* Note what only GNU msgfmt answers before it reads a PO file, and what Kobdzila's msgfmt can't do. */
 static void look_at_names(struct request *request) {
     if (request->wants_version)
@@ -133,7 +129,8 @@ static void look_at_names(struct request *request) {
         needs_gnu(request, "", "more than one PO file");
     if (request->output && !is_utf8(request->output))
         needs_gnu(request, "", "a name that isn't UTF-8");
-    if (request->output && is_error_output(request->output))
+    /* (messages and an MO file couldn't be told apart there) */
+    if (request->output && descriptor_of(request->output) == STDERR_FILENO)
         needs_gnu(request, "", "FILE is the error output");
 }
 

@@ -229,6 +229,14 @@ cat ours.po | "$driver" -o /dev/fd/9 - 9> y.mo
 "$program" -o wanted.mo ours.po
 if cmp -s x.mo wanted.mo && cmp -s y.mo wanted.mo; then ok "$name"; else failed "$name" "$(wc -c x.mo y.mo)"; fi
 
+name='driver, a text with macros, to /dev/stdout and to a descriptor of the caller: no file is replaced'
+"$gnu" --no-hash -o wanted.mo system.po
+{ echo first && "$driver" -o /dev/stdout system.po && echo last; } > x.mo
+printf '%099999d' 0 > y.mo
+{ "$driver" -o /dev/fd/9 system.po && cat <&9 > z.mo; } 9<> y.mo
+if { echo first && cat wanted.mo && echo last; } | cmp -s - x.mo && cmp -s z.mo wanted.mo; then ok "$name"
+else failed "$name" "$(wc -c x.mo z.mo | xargs)"; fi
+
 name='driver, a stream without an end'
 if said=$(yes | (ulimit -v 1200000 && "$driver" -o x.mo - 2>&1)); then failed "$name" "status 0: $said"
 elif [ "$said" = 'msgfmt-or-gnu: -: more than 64 MiB: save it in a file, and give the name of that' ]; then ok "$name"

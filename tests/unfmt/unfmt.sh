@@ -116,6 +116,9 @@ says 'unfmt, -o' 0 '' -o written.po layouts.mo
 holds 'unfmt, -o: the bytes' cmp -s written.po whole
 says 'unfmt, --output-file=-' 0 '' --output-file=- layouts.mo
 holds 'unfmt, --output-file=-: the bytes' cmp -s out whole
+{ echo first && cat whole && echo last; } > between
+{ echo first && "$tested" -o /dev/stdout layouts.mo && echo last; } > streamed
+holds 'unfmt, -o /dev/stdout: it is written where that stands' cmp -s streamed between
 run - < layouts.mo
 holds 'unfmt, standard input' cmp -s out whole
 run < layouts.mo
