@@ -159,6 +159,19 @@ int write_in_one_step(const char *name, const char *bytes, size_t len, mode_t mo
     return replace(name, bytes, len, &old, mode);
 }
 
+/* Whether a folder refuses a temporary file or its renaming: no permission, a read-only file system, a mount point, another
+ * device, a name that is too long. */
+static bool is_refused(int cause) {
+    return cause == EACCES || cause == EPERM || cause == EROFS || cause == EBUSY || cause == EXDEV || cause == ENAMETOOLONG;
+}
+
+int write_where_allowed(const char *name, const char *bytes, size_t len, mode_t mode) {
+    int cause = write_in_one_step(name, bytes, len, mode);
+    if (!is_refused(cause) || access(name, W_OK) < 0)
+        return cause;
+    return write_through(name, O_TRUNC, bytes, len, mode);
+}
+
 int make_folders(const char *name) {
     char *path = text_of("%s", name), *last = strrchr(path, '/');
     int cause = 0;

@@ -13,6 +13,9 @@ char *text_of(const char *words, ...) __attribute__((format(printf, 1, 2)));
 /* Write a file in one step: a reader has the whole old file or the whole new one. Returns 0, or the errno of why it
  * can't be written, which leaves the old file as it was. */
 int write_in_one_step(const char *name, const char *bytes, size_t len, mode_t mode);
+/* Write a file as `write_in_one_step` does, but an existing file directly if its folder refuses a temporary file, or to
+ * rename it. So msgfmt writes, and GNU's programs write so always. */
+int write_where_allowed(const char *name, const char *bytes, size_t len, mode_t mode);
 /* Make the folders that lead to a file. Returns 0 or an errno. */
 int make_folders(const char *name);
 

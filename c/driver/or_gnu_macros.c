@@ -34,7 +34,7 @@ static mode_t mode_of_file(void) {
 /* Write the MO file. Returns 0, or the errno of why it can't be written. */
 static int write_made(kob_text file, const char *output, int standard_output) {
     if (strcmp(output, "-"))
-        return write_in_one_step(output, file.at, file.len, mode_of_file());
+        return write_where_allowed(output, file.at, file.len, mode_of_file());
     return write_all(standard_output < 0 ? STDOUT_FILENO : standard_output, file.at, file.len) ? 0 : errno;
 }
 

@@ -457,6 +457,18 @@ if [ "$(id -u)" = 0 ] && "$top/tests/lib/needs" setpriv util-linux; then
   unwritten 'Permission denied' locked/x.mo
   if cmp -s locked/x.mo ours.po; then ok 'driver, unwritten: a read-only MO file in a folder that is read-only stays'
   else failed 'driver, unwritten: a read-only MO file in a folder that is read-only stays' 'it was changed'; fi
+  # fills NAME PO-FILE: an MO file that may be written is written in a folder that is read-only, as GNU msgfmt writes it
+  fills() {
+    rm -f locked/y.mo
+    chmod 644 "$2" && printf old > locked/y.mo && chmod 666 locked/y.mo
+    drive -o locked/y.mo "$2"
+    judge "driver, a folder that is read-only, $1" 0 '' &&
+      if [ "$(stat -c %a locked/y.mo)" != 666 ] || ! "$gnu" --no-hash -o wanted.mo "$2" || ! cmp -s locked/y.mo wanted.mo; then
+        failed "driver, a folder that is read-only, $1" "$(ls -l locked)"
+      else ok "driver, a folder that is read-only, $1"; fi
+  }
+  fills 'compiled by msgfmt' ours.po
+  fills 'compiled by libkobdzila' system.po
   under=()
 else
   skipped 'driver, unwritten, Permission denied, and a read-only MO file' 'only root can become another user'
