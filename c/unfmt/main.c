@@ -156,13 +156,15 @@ static struct output text_of_all(const struct run *run) {
     return all;
 }
 
-/* Write the output. Returns 0 or an errno. */
+/* Write the output. Returns 0 or an errno. A file that may only be read isn't replaced either. */
 static int write_to(const char *name, const char *bytes, size_t len) {
     mode_t masked = umask(0);
     umask(masked);
-    if (name)
-        return write_in_one_step(name, bytes, len, 0666 & ~masked);
-    return write_all(STDOUT_FILENO, bytes, len) ? 0 : errno;
+    if (!name)
+        return write_all(STDOUT_FILENO, bytes, len) ? 0 : errno;
+    if (descriptor_of(name) < 0 && access(name, W_OK) < 0 && errno != ENOENT)
+        return errno;
+    return write_where_allowed(name, bytes, len, 0666 & ~masked);
 }
 
 static enum status write_output(const struct run *run) {

@@ -148,6 +148,19 @@ if [ -n "$gnu" ] && "$(dirname "$gnu")/msgfmt" -o latin.mo latin.po 2> gnu-said 
 else
   skipped 'unfmt, other charsets' 'no GNU msgunfmt'
 fi
+if [ "$(id -u)" = 0 ] && "$top/tests/lib/needs" setpriv util-linux; then
+  mkdir locked && printf old > locked/kept.po && chmod 666 locked/kept.po && chmod 755 "$room" locked && chmod 644 layouts.mo
+  under=(setpriv --reuid=65534 --regid=65534 --clear-groups)
+  says 'unfmt, a folder that is read-only: an existing file' 0 '' -o locked/kept.po layouts.mo
+  holds 'unfmt, a folder that is read-only: the bytes' cmp -s locked/kept.po whole
+  mkdir open && chmod 777 open && printf old > open/kept.po && chown 65534 open/kept.po && chmod 444 open/kept.po
+  says 'unfmt, a file that is read-only' 1 'kob-msgunfmt: cannot write open/kept.po: Permission denied' -o open/kept.po layouts.mo
+  holds 'unfmt, a file that is read-only: it stays' [ "$(cat open/kept.po)" = old ]
+  says 'unfmt, a folder that is read-only: a new file' 1 'kob-msgunfmt: cannot write locked/new.po: Permission denied' -o locked/new.po layouts.mo
+  under=()
+else
+  skipped 'unfmt, a folder that is read-only' 'only root can become another user'
+fi
 says 'unfmt, a folder for -o' 1 'kob-msgunfmt: cannot write .: Is a directory' -o . layouts.mo
 says 'unfmt, a folder that is not there' 1 'kob-msgunfmt: cannot write no/such.po: No such file or directory' -o no/such.po layouts.mo
 says 'unfmt, -w' 1 'kob-msgunfmt: -w x: not a number of columns' -w x layouts.mo
