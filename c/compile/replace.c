@@ -98,6 +98,13 @@ static int dress(int file, const struct stat *old) {
     return set_mode(file, mode);
 }
 
+/* Have a network file system take what was written. It may tell only at a close, of any of a file's descriptors, that a
+ * disk is full. Returns 0 or an errno. */
+static int hand_over(int file) {
+    int again = fcntl(file, F_DUPFD_CLOEXEC, 0);
+    return again >= 0 && close(again) < 0 ? errno : 0;
+}
+
 /* Write a regular or new file; `old` is NULL for a new one. */
 static int replace(const char *name, const char *bytes, size_t len, const struct stat *old, mode_t mode) {
     struct temporary temporary;
@@ -108,11 +115,13 @@ static int replace(const char *name, const char *bytes, size_t len, const struct
         cause = errno;
     if (!cause)
         cause = old ? dress(temporary.file, old) : set_mode(temporary.file, mode);
+    if (!cause)
+        cause = hand_over(temporary.file);
     if (!cause && rename(temporary.name, name) < 0)
         cause = errno;
     if (cause)
         unlink(temporary.name);
-    if (close(temporary.file) < 0 && !cause) /* (network file systems tell late that a disk is full) */
+    if (close(temporary.file) < 0 && !cause)
         cause = errno;
     free(temporary.name);
     return cause;

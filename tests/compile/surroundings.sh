@@ -1,7 +1,7 @@
 #!/usr/bin/env bash
 # Runs bin/kob-compile where a file, a file system or the program that starts it is unusual: a text that is too large, new
 # files that belong to another user, links that lead nowhere, names that are spelled in several ways, a signal while it
-# searches, and signals that are ignored or blocked when GNU msgfmt runs.
+# searches, a disk that fails, and signals that are ignored or blocked when GNU msgfmt runs.
 . "$(dirname "$0")/../lib/common"
 . tests/lib/c_common
 NAME='compile, surroundings'
@@ -75,6 +75,11 @@ if (cd "$top" && PROGRAM=kob-compile tools/build_driver "$room/dynamic" -g &&
   holds 'compile, a signal while it searches: it ends by it' [ "$status" = 143 ]
   holds 'compile, a signal while it searches: no other folder is read' [ "$(cat err)" = . ]
   holds 'compile, a signal while it searches: nothing is compiled' is_absent search/d/fr.mo
+  po quota/fr.po fr a && echo old > quota/fr.mo && touch -d 2001-01-01 quota/fr.mo
+  under=(env FULL=1 "LD_PRELOAD=$room/surroundings.so")
+  says 'compile, a disk that is full at a close' 3 'kob-compile: cannot write quota/fr.mo: Disk quota exceeded' -q quota
+  holds 'compile, a disk that is full at a close: the old file stays' grep -qx old quota/fr.mo
+  holds 'compile, a disk that is full at a close: no leftover' has_no_leftover quota
   tested=$of_sources under=()
 else
   skipped 'compile, a system unlike this one' "it can't be linked: $(tail -n 1 gcc)"
