@@ -27,10 +27,11 @@ char *text_of(const char *words, ...) {
     return text;
 }
 
-/* A temporary file. */
+/* A temporary file, and whether it was made now, and not left by a killed run. */
 struct temporary {
     char *name;
     int file;
+    bool is_new;
 };
 
 /* Whether a locked file is still the one of this name, and fit to be written: another run may have renamed it, and a
@@ -42,12 +43,12 @@ static bool is_ours(int file, const char *name, bool is_new) {
            open.st_nlink == 1;
 }
 
-/* Open a new file of this name, or the one that a killed run left. -1 and EEXIST if the name is taken, or another errno.
- * On a file system without locks it has to be new. */
-static int claim(const char *name) {
+/* Open a new file of this name and mode, or the one that a killed run left. -1 and EEXIST if the name is taken, or
+ * another errno. On a file system without locks it has to be new. */
+static int claim(const char *name, mode_t mode, bool *made) {
     enum { HOW = O_RDWR | O_NOFOLLOW | O_CLOEXEC | O_NOCTTY | O_NONBLOCK };
-    int file = open(name, HOW | O_CREAT | O_EXCL, 0600);
-    bool is_new = file >= 0;
+    int file = open(name, HOW | O_CREAT | O_EXCL, mode);
+    bool is_new = *made = file >= 0;
     if (!is_new && errno != EEXIST)
         return -1;
     if (!is_new && (file = open(name, HOW)) < 0) {
@@ -56,20 +57,20 @@ static int claim(const char *name) {
     }
     bool is_locked = flock(file, LOCK_EX | LOCK_NB) == 0;
     bool is_free = is_locked || (is_new && errno != EWOULDBLOCK);
-    if (is_free && is_ours(file, name, is_new) && (is_new || ftruncate(file, 0) == 0))
+    if (is_free && is_ours(file, name, is_new) && (is_new || (fchmod(file, 0600) == 0 && ftruncate(file, 0) == 0)))
         return file;
     close(file);
     errno = EEXIST;
     return -1;
 }
 
-/* Open a temporary file next to `name`. Returns 0 or an errno. */
-static int open_temporary(struct temporary *temporary, const char *name) {
+/* Open a temporary file next to `name`, of this mode if it is made. Returns 0 or an errno. */
+static int open_temporary(struct temporary *temporary, const char *name, mode_t mode) {
     const char *slash = strrchr(name, '/'), *base = slash ? slash + 1 : name;
     for (int number = 0; number < MOST_NAMES; number++) {
         temporary->name = text_of("%.*s.%.*s.%s-%d", (int)(base - name), name, MOST_OF_NAME, base, program_name,
                                   number);
-        temporary->file = claim(temporary->name);
+        temporary->file = claim(temporary->name, mode, &temporary->is_new);
         if (temporary->file >= 0)
             return 0;
         int cause = errno;
@@ -105,16 +106,19 @@ static int hand_over(int file) {
     return again >= 0 && close(again) < 0 ? errno : 0;
 }
 
-/* Write a regular or new file; `old` is NULL for a new one. */
+/* Write a regular or new file; `old` is NULL for a new one. That is made as any new file, so that the rules of its folder
+ * apply to it (acl(5)). */
 static int replace(const char *name, const char *bytes, size_t len, const struct stat *old, mode_t mode) {
     struct temporary temporary;
-    int cause = open_temporary(&temporary, name);
+    int cause = open_temporary(&temporary, name, old ? 0600 : 0666);
     if (cause)
         return cause;
     if (!write_all(temporary.file, bytes, len))
         cause = errno;
-    if (!cause)
-        cause = old ? dress(temporary.file, old) : set_mode(temporary.file, mode);
+    if (!cause && old)
+        cause = dress(temporary.file, old);
+    else if (!cause && !temporary.is_new)
+        cause = set_mode(temporary.file, mode);
     if (!cause)
         cause = hand_over(temporary.file);
     if (!cause && rename(temporary.name, name) < 0)

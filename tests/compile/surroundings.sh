@@ -42,6 +42,21 @@ else
   skipped "compile, an old file whose group can't be kept" 'another user is needed: run it as root, with setpriv'
 fi
 
+# --- a folder's own rules for new files (acl(5)): its group may write them, and others may not read them ------------------
+
+po shared/fr.po fr a
+if python3 - 2> python << 'END'; then
+import os, struct
+entries = [(1, 6), (4, 6), (32, 0)]  # the owner, the group, others
+rules = b"".join(struct.pack("<HHI", *it, 0xffffffff) for it in entries)
+os.setxattr("shared", "system.posix_acl_default", struct.pack("<I", 2) + rules)
+END
+  (umask 022 && run -q shared)
+  holds "compile, a folder's own rules for new files" [ "$(stat -c %a shared/fr.mo)" = 660 ]
+else
+  skipped "compile, a folder's own rules for new files" "it can't have any: $(tail -n 1 python)"
+fi
+
 # --- names -----------------------------------------------------------------------------------------------------------------
 
 po names/po/fr.po fr a
