@@ -131,13 +131,25 @@ static int replace(const char *name, const char *bytes, size_t len, const struct
     return cause;
 }
 
+/* Remove the file that a link names. */
+static void remove_target(const char *name) {
+    char *target = realpath(name, NULL);
+    if (target)
+        unlink(target);
+    free(target);
+}
+
 /* Write a device or a pipe, with `more` O_CREAT the file that a dangling link names, or with O_TRUNC an existing file. */
 static int write_through(const char *name, int more, const char *bytes, size_t len, mode_t mode) {
     int file = open(name, O_WRONLY | O_CLOEXEC | O_NOCTTY | more, mode);
     if (file < 0)
         return errno;
     int cause = write_all(file, bytes, len) ? 0 : errno;
-    return close(file) < 0 && !cause ? errno : cause;
+    if (close(file) < 0 && !cause)
+        cause = errno;
+    if (cause && more == O_CREAT)
+        remove_target(name);
+    return cause;
 }
 
 /* Whether a link leads to a device or a pipe, such as /dev/stdout, which may have no other name. */

@@ -25,6 +25,12 @@ holds 'compile, a link that leads nowhere: it stays' [ -L links/fr.mo ]
 rm -r links/there
 says 'compile, a link into a folder that is not there' 3 \
   'kob-compile: cannot write links/fr.mo: No such file or directory' -q --force links
+mkdir links/there && { header UTF-8 de && printf 'msgid "hi"\nmsgstr "%01024d"\n' 0; } > links/de.po
+ln -s there/new.mo links/de.mo
+under=(bash -c 'ulimit -f 1 && exec "$@"' -)
+says 'compile, a link that leads nowhere, and a full disk' 3 'kob-compile: cannot write links/de.mo: File too large' -q links/de.po
+holds 'compile, a link that leads nowhere, and a full disk: no half of a file stays' is_absent links/there/new.mo
+under=()
 
 # --- an old file whose group can't be kept ----------------------------------------------------------------------------------
 
