@@ -118,8 +118,9 @@ static unsigned char kind_of(int folder, const struct dirent *entry) {
     return fstatat(folder, entry->d_name, &about, AT_SYMLINK_NOFOLLOW) == 0 ? (unsigned char)IFTODT(about.st_mode) : DT_UNKNOWN;
 }
 
-static void list_folder(const struct options *options, DIR *folder, struct listing *listing) {
-    for (struct dirent *entry; (entry = readdir(folder));) {
+/* List a folder. Returns 0, or the errno of why it can't be read to its end. */
+static int list_folder(const struct options *options, DIR *folder, struct listing *listing) {
+    for (struct dirent *entry; errno = 0, (entry = readdir(folder));) {
         const char *name = entry->d_name;
         if (is_po_name(name) && name[0] != '.')
             add_name(&listing->files, &listing->file_count, name);
@@ -130,6 +131,7 @@ static void list_folder(const struct options *options, DIR *folder, struct listi
         else if (!is_excluded(options, name) && kind_of(dirfd(folder), entry) == DT_DIR)
             add_name(&listing->folders, &listing->folder_count, name);
     }
+    return errno;
 }
 
 static void free_names(char **names, size_t count) {
@@ -224,7 +226,9 @@ static void look_into(struct search *search, int parent, const char *name, const
             close(file);
         return;
     }
-    list_folder(&search->run->options, folder, &listing);
+    int cause = list_folder(&search->run->options, folder, &listing);
+    if (cause)
+        cannot(search, "read", path, cause);
     look_at_listing(search, dirfd(folder), path, &listing);
     free_names(listing.files, listing.file_count);
     free_names(listing.folders, listing.folder_count);

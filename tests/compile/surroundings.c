@@ -33,6 +33,21 @@ DIR *fdopendir(int folder) {
     return next(folder);
 }
 
+/* With BROKEN, the disk fails behind the first entry of a folder that isn't a dot. */
+struct dirent *readdir(DIR *folder) {
+    static struct dirent *(*next)(DIR *);
+    static int count;
+    if (!next)
+        *(void **)&next = dlsym(RTLD_NEXT, "readdir");
+    if (getenv("BROKEN") && count) {
+        errno = EIO;
+        return NULL;
+    }
+    struct dirent *entry = next(folder);
+    count += entry && entry->d_name[0] != '.';
+    return entry;
+}
+
 /* With FULL, the disk of a file server is full, which it tells only when what was written is closed. */
 int close(int file) {
     int how = fcntl(file, F_GETFL);

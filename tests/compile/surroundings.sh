@@ -101,6 +101,10 @@ if (cd "$top" && PROGRAM=kob-compile tools/build_driver "$room/dynamic" -g &&
   says 'compile, a disk that is full at a close' 3 'kob-compile: cannot write quota/fr.mo: Disk quota exceeded' -q quota
   holds 'compile, a disk that is full at a close: the old file stays' grep -qx old quota/fr.mo
   holds 'compile, a disk that is full at a close: no leftover' has_no_leftover quota
+  po broken/fr.po fr a && po broken/de.po de a
+  under=(env BROKEN=1 "LD_PRELOAD=$room/surroundings.so")
+  says "compile, a folder that can't be read to its end" 3 'kob-compile: cannot read broken: Input/output error' broken
+  holds "compile, a folder that can't be read to its end: what was read is compiled" grep -q '^1 compiled' out
   tested=$of_sources under=()
 else
   skipped 'compile, a system unlike this one' "it can't be linked: $(tail -n 1 gcc)"
