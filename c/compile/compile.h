@@ -51,6 +51,7 @@ struct catalogue {
     char *language;       /* as its path names it */
     char *domain;         /* the text domain, or NULL if neither the path nor -d names one */
     off_t size;
+    struct timespec time; /* of its last change, when it was found */
     bool is_changed;      /* since the last round of --watch */
     enum outcome outcome;
     bool by_gnu;          /* the answer is GNU msgfmt's */

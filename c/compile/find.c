@@ -71,6 +71,7 @@ static void add_file(struct search *search, char *path, const struct stat *about
     struct stat made;
     it->po = path;
     it->size = about->st_size;
+    it->time = about->st_mtim;
     if (!place_catalogue(options, it)) {
         if (search->without_domain++ == 0)
             tell("kob-compile: %s: -o needs -d DOMAIN for a PO file that isn't in LANGUAGE/LC_MESSAGES", path);

@@ -4,8 +4,10 @@
 #include "or_gnu.h"
 
 #include <errno.h>
+#include <fcntl.h>
 #include <stdlib.h>
 #include <string.h>
+#include <sys/stat.h>
 
 enum { MOST_TEXT = 67108864 }; /* bytes of the largest PO text */
 
@@ -22,6 +24,18 @@ static void end_with(struct catalogue *it, enum outcome outcome, int cause) {
 
 /* ---- the MO file */
 
+/* Give the MO file the time of a PO file that was changed since the search, and perhaps after it was read: so the next run
+ * compiles it again. */
+static void mark_as_old(const struct catalogue *it) {
+    struct stat now;
+    if (stat(it->po, &now) < 0)
+        return;
+    struct timespec times[] = {{.tv_nsec = UTIME_OMIT}, now.st_mtim};
+    bool is_same_time = now.st_mtim.tv_sec == it->time.tv_sec && now.st_mtim.tv_nsec == it->time.tv_nsec;
+    if (now.st_size != it->size || !is_same_time)
+        utimensat(AT_FDCWD, it->mo, times, 0);
+}
+
 static void write_mo(const struct run *run, struct catalogue *it, const char *bytes, size_t len) {
     int cause = 0;
     if (stopped_by) /* nothing is written any more */
@@ -31,6 +45,8 @@ static void write_mo(const struct run *run, struct catalogue *it, const char *by
         cause = run->options.output ? make_folders(it->mo) : 0;
         if (!cause)
             cause = write_in_one_step(it->mo, bytes, len, run->mode);
+        if (!cause)
+            mark_as_old(it);
     }
     if (cause)
         end_with(it, IS_UNWRITTEN, cause);

@@ -77,6 +77,12 @@ under=(timeout $((20 * slower)))
 says 'compile, a LINGUAS that is a pipe: it is not waited for' 2 'kob-compile: no PO file found; name a folder or files' pipe
 under=()
 
+# (GNU msgfmt is what another program can stand in for: one that edits the file that it has read)
+script edits 'for it; do :; done; echo made; sleep 0.1; echo "# edited" >> "$it"; sleep 0.1'
+po edited/fr.po fr 'a\x41'
+GNU_MSGFMT=$room/edits run -q edited
+says 'compile, a file that is edited once it was read: it is compiled again' 1 'edited/fr.po:5: bad escape' --no-gnu -q edited
+
 # --- what this machine isn't -------------------------------------------------------------------------------------------------
 
 if (cd "$top" && PROGRAM=kob-compile tools/build_driver "$room/dynamic" -g &&
