@@ -118,6 +118,8 @@ struct gnu_answer {
 };
 /* Compile a PO file with GNU msgfmt, if there is one; it may be called by several threads. */
 struct gnu_answer ask_gnu(const struct run *run, char *name);
+/* Say why GNU msgfmt couldn't be run, or which signal ended it, if that is so. */
+void report_gnu_failure(void);
 /* Return why there is no GNU msgfmt that knows flags in `#=` lines, or NULL if there is one. */
 char *why_no_gnu_for_flag_lines(void);
 /* ---- what is printed (report.c, table.c, progress.c, json.c, sarif.c) */

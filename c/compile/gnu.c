@@ -2,6 +2,7 @@
 #include "compile.h"
 #include "or_gnu.h"
 
+#include <errno.h>
 #include <fcntl.h>
 #include <pthread.h>
 #include <stdlib.h>
@@ -10,8 +11,14 @@
 
 static pthread_once_t looked = PTHREAD_ONCE_INIT;
 static char *gnu;
+static atomic_int failure;  /* the errno of why it couldn't be looked for or run, or 0 */
+static atomic_int ended_by; /* the signal that ended it, or 0 */
 
-static void look_for_gnu(void) { gnu = find_gnu(NULL); }
+static void look_for_gnu(void) {
+    gnu = find_gnu(NULL);
+    if (!gnu)
+        failure = errno;
+}
 
 /* Read the counts from `1 translated message, 2 fuzzy translations, 3 untranslated messages.` */
 static void take_counts(kob_counts *counts, const char *said) {
@@ -107,14 +114,27 @@ static void take_answer(struct gnu_answer *answer, const struct captured *files,
 struct gnu_answer ask_gnu(const struct run *run, char *name) {
     struct gnu_answer answer = {0};
     pthread_once(&looked, look_for_gnu);
-    answer.is_missing = !gnu;
-    if (!gnu)
+    answer.is_missing = !gnu && !failure;
+    if (!gnu || stopped_by)
         return answer;
     struct captured files = {raised(open("/dev/null", O_RDWR | O_CLOEXEC)), unnamed_file(), unnamed_file()};
-    if (files.input >= 0 && files.made >= 0 && files.said >= 0)
-        take_answer(&answer, &files, run_gnu(run, name, &files), name);
+    bool has_files = files.input >= 0 && files.made >= 0 && files.said >= 0;
+    struct ending ending = has_files ? run_gnu(run, name, &files) : (struct ending){.failure = errno};
+    if (ending.failure)
+        failure = ending.failure;
+    if (!stopped_by && ending.signal)
+        ended_by = ending.signal;
+    take_answer(&answer, &files, ending, name);
     close_all(&files);
     return answer;
+}
+
+void report_gnu_failure(void) {
+    int cause = atomic_exchange(&failure, 0), number = atomic_exchange(&ended_by, 0);
+    if (cause)
+        tell("kob-compile: cannot run %s: %s", gnu ? gnu : "GNU msgfmt", strerror(cause));
+    if (number)
+        tell("kob-compile: signal %d ended %s", number, gnu);
 }
 
 char *why_no_gnu_for_flag_lines(void) {

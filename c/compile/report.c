@@ -72,4 +72,5 @@ void report_troubles(const struct run *run) {
     if (lacking)
         tell("kob-compile: GNU msgfmt may compile %zu of these, and there is none on the PATH; it is in the package gettext",
              lacking);
+    report_gnu_failure();
 }

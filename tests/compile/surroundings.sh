@@ -118,6 +118,13 @@ fi
 
 # --- signals and GNU msgfmt ----------------------------------------------------------------------------------------------------
 
+po gone/fr.po fr 'a\x41'
+GNU_MSGFMT=$room/none says "compile, GNU_MSGFMT isn't there" 1 "gone/fr.po:5: bad escape
+kob-compile: cannot run $room/none: No such file or directory" -q gone
+script dies 'kill -SEGV $$'
+GNU_MSGFMT=$room/dies says 'compile, GNU msgfmt is ended by a signal' 1 "gone/fr.po:5: bad escape
+kob-compile: signal 11 ended $room/dies" -q gone
+
 # (a shell that starts a program blocks all signals for a moment)
 script blocked "exec sed -n 's/^SigBlk:[[:space:]]*//p' /proc/self/status >> '$room/mask'"
 mkdir many
