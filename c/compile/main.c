@@ -20,13 +20,21 @@ void stop_for_memory(void) {
 
 /* ---- signals */
 
-static void note_signal(int number) { stopped_by = number; }
+/* (the next one, of whatever number, isn't noted any more) */
+static void note_signal(int noted) {
+    stopped_by = noted;
+    for (const int *number = ending_signals; *number; number++) {
+        struct sigaction now;
+        if (sigaction(*number, NULL, &now) == 0 && now.sa_handler == note_signal)
+            signal(*number, SIG_DFL);
+    }
+}
 
 /* A signal that would end the program lets the files that are being written end first; a second one ends it at once. A
  * signal that is ignored (nohup) stays ignored. A file that is too large is an error of its own. */
 static void take_signals(void) {
     for (const int *number = ending_signals; *number; number++) {
-        struct sigaction now, noting = {.sa_handler = note_signal, .sa_flags = (int)SA_RESETHAND};
+        struct sigaction now, noting = {.sa_handler = note_signal};
         if (sigaction(*number, NULL, &now) == 0 && now.sa_handler == SIG_DFL)
             sigaction(*number, &noting, NULL);
     }

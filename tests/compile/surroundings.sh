@@ -125,6 +125,26 @@ script dies 'kill -SEGV $$'
 GNU_MSGFMT=$room/dies says 'compile, GNU msgfmt is ended by a signal' 1 "gone/fr.po:5: bad escape
 kob-compile: signal 11 ended $room/dies" -q gone
 
+script waits ": > '$room/waiting'; exec sleep 20"
+po waited/fr.po fr 'a\x41'
+if env --default-signal=HUP true 2> env; then
+  GNU_MSGFMT=$room/waits env --default-signal=HUP "$tested" -q waited > out 2> err &
+  it=$!
+  for _ in $(seq 200); do
+    [ ! -e waiting ] || break
+    sleep 0.05
+  done
+  kill -HUP $it
+  sleep 0.2
+  kill -TERM $it
+  SECONDS=0
+  wait $it 2> shell
+  status=$?
+  holds 'compile, a second signal of another number ends it at once' [ "$status $((SECONDS < 10))" = '143 1' ]
+else
+  skipped 'compile, a second signal of another number ends it at once' 'env has no option --default-signal'
+fi
+
 # (a shell that starts a program blocks all signals for a moment)
 script blocked "exec sed -n 's/^SigBlk:[[:space:]]*//p' /proc/self/status >> '$room/mask'"
 mkdir many
