@@ -113,8 +113,9 @@ struct gnu_answer {
     size_t len;
     kob_counts counts;
     char *why;
-    unsigned line;
-    bool is_missing; /* there is no GNU msgfmt */
+    unsigned line;    /* of what it refused, or of the header of which it warns */
+    unsigned missing; /* a bit for each field that the header lacks */
+    bool is_missing;  /* there is no GNU msgfmt */
 };
 /* Compile a PO file with GNU msgfmt, if there is one; it may be called by several threads. */
 struct gnu_answer ask_gnu(const struct run *run, char *name);

@@ -54,6 +54,24 @@ static void take_refusal(struct gnu_answer *answer, const char *name, const char
     }
 }
 
+/* Take the fields that the header lacks, of each of which there is a line `NAME:LINE: warning: header field 'FIELD' missing
+ * in header`. */
+static void take_missing(struct gnu_answer *answer, const char *name, const char *said) {
+    size_t len = strlen(name);
+    for (unsigned place = 0; place < FIELD_COUNT; place++) {
+        char *text = text_of(": warning: header field '%s' missing", fields[place]);
+        const char *at = strstr(said, text);
+        free(text);
+        if (!at)
+            continue;
+        answer->missing |= 1u << place;
+        while (at > said && at[-1] != '\n')
+            at--;
+        if (!strncmp(at, name, len) && at[len] == ':')
+            answer->line = (unsigned)strtoul(at + len + 1, NULL, 10);
+    }
+}
+
 /* The streams of a run of GNU msgfmt. */
 struct captured {
     int input, made, said;
@@ -102,6 +120,7 @@ static void take_answer(struct gnu_answer *answer, const struct captured *files,
     char *said = ending.failure || ending.signal ? NULL : read_back(files->said, &len);
     if (said && ending.status == 0) {
         take_counts(&answer->counts, said);
+        take_missing(answer, name, said);
         answer->mo = read_back(files->made, &answer->len);
         if (answer->mo && answer->len == 0)
             take_empty_mo(answer);

@@ -83,13 +83,15 @@ static void hand_to_gnu(const struct run *run, struct catalogue *it, bool is_for
         free(it->why);
         free_format_faults(&it->formats);
         it->why = answer.why;
-        it->line = answer.line;
+        it->line = answer.mo ? 0 : answer.line;
         it->by_gnu = true;
     } else {
         free(answer.why);
     }
     if (answer.mo) {
         it->counts = answer.counts;
+        it->missing = answer.missing;
+        it->header_line = answer.line;
         write_mo(run, it, answer.mo, answer.len);
         free(answer.mo);
     }

@@ -458,6 +458,9 @@ if [ -n "$gnu" ]; then
   "$gnu" --no-hash -o wanted.gnu euc/zh.po
   holds 'compile, another charset: the bytes of GNU msgfmt' cmp -s euc/zh.mo wanted.gnu
   says 'compile, another charset, -c -f' 0 'euc/zh.po: 1 translated message, 1 fuzzy translation.' --statistics -q -c -f --force euc
+  printf 'msgid ""\nmsgstr "Content-Type: text/plain; charset=EUC-TW\\n"\n\nmsgid "hi"\nmsgstr "\304\343"\n' > lacking.po
+  "$gnu" -c -o none.mo lacking.po 2> said
+  says 'compile, another charset, and fields that the header lacks' 0 "$(sed 's/ in header$//' said)" -q -c lacking.po
   mkdir checked && { cat euc/zh.po && printf '#, c-format\nmsgid "%%d"\nmsgstr "%%s"\n'; } > checked/zh.po
   says 'compile, another charset, checked by GNU msgfmt' 1 \
     "checked/zh.po:12: format specifications in 'msgid' and 'msgstr' for argument 1 are not the same" -q -c checked
