@@ -137,8 +137,23 @@ static bool serve_flag_lines(const struct run *run, struct catalogue *it, struct
     return true;
 }
 
-/* Refuse a text that compiles, for formats of other languages than C. GNU msgfmt may know more of them than Kobdzila. False if nothing
- * is wrong with them. */
+/* Leave a text with a format that only GNU msgfmt can check to it. False if there is no GNU msgfmt. */
+static bool leave_to_gnu(const struct run *run, struct catalogue *it) {
+    if (run->options.without_gnu || stopped_by)
+        return false;
+    it->outcome = IS_REFUSED;
+    hand_to_gnu(run, it, true);
+    if (!it->by_gnu) {
+        it->outcome = WAITING;
+        it->lacks_gnu = false;
+    } else if (it->outcome == IS_REFUSED) {
+        it->fault = KOB_PO_FORMAT_MISMATCH; /* (most likely) */
+    }
+    return it->by_gnu;
+}
+
+/* Refuse a text that compiles, for formats of other languages than C, or leave it to GNU msgfmt, which may know more of
+ * them than Kobdzila. False if nothing is wrong with them. */
 static bool refuse_formats(const struct run *run, struct catalogue *it, struct text_bytes text) {
     unsigned options = KOB_CHECKED | (run->options.keeps_fuzzy ? KOB_USE_FUZZY : 0);
     struct part part = {text.at, text.at + text.len};
@@ -147,6 +162,8 @@ static bool refuse_formats(const struct run *run, struct catalogue *it, struct t
         return false;
     if (!find_format_faults(&it->formats, part, options, &why))
         stop_for_memory(); /* (the text has compiled) */
+    if (it->formats.unread && leave_to_gnu(run, it))
+        return true;
     if (!it->formats.count)
         return false;
     it->outcome = IS_REFUSED;
@@ -160,17 +177,9 @@ static bool refuse_formats(const struct run *run, struct catalogue *it, struct t
 /* Leave a text with a C format that only GNU msgfmt can check to it. False if there is none, or no GNU msgfmt. */
 static bool leaves_formats_to_gnu(const struct run *run, struct catalogue *it, struct text_bytes text) {
     struct part part = {text.at, text.at + text.len};
-    if (!run->options.checks || run->options.without_gnu || stopped_by)
+    if (!run->options.checks || run->options.without_gnu || !may_have_odd_directive(part))
         return false;
-    if (!may_have_odd_directive(part) || !scan(run, text).has_odd_format) /* (few texts are scanned) */
-        return false;
-    it->outcome = IS_REFUSED;
-    hand_to_gnu(run, it, true);
-    if (!it->by_gnu) {
-        it->outcome = WAITING;
-        it->lacks_gnu = false;
-    }
-    return it->by_gnu;
+    return scan(run, text).has_odd_format && leave_to_gnu(run, it); /* (few texts are scanned) */
 }
 
 /* Compile with GNU msgfmt a text of which a C format has a macro left, or which has macros and flags that GNU msgfmt

@@ -431,6 +431,8 @@ if [ -n "$gnu" ]; then
   says 'compile, a directive that only GNU msgfmt reads' 1 \
     "undefined.po:6: format specifications in 'msgid' and 'msgstr' for argument 1 are not the same" -q -c undefined.po
   holds 'compile, a directive that only GNU msgfmt reads: nothing is written' is_absent undefined.mo
+  run -q --check --sarif=- undefined.po
+  holds 'compile, a directive that only GNU msgfmt reads: its rule of SARIF' grep -q '"ruleId": "format-arguments-differ"' out
   says 'compile, a directive that only GNU msgfmt reads, without -c' 0 '' -q undefined.po
   holds 'compile, a directive that only GNU msgfmt reads, without -c: the bytes' is_as_msgfmt undefined.mo undefined.po
   (unset GNU_MSGFMT && PATH=$room/none && "$tested" -q --check undefined.po) 2> err
@@ -522,6 +524,10 @@ else failed 'compile, formats of Python: JSON and SARIF' "$(tail -n 1 machines)"
 if [ -n "$gnu" ]; then
   says 'compile, formats of Python that GNU msgfmt refuses, too' 1 "$first
 $last" -q -c formats
+  mkdir unread && { header UTF-8 fr && printf '#, scheme-format\nmsgid "~{~a~}"\nmsgstr "~d"\n'; } > unread/fr.po
+  "$gnu" -c -o none.mo unread/fr.po 2> said
+  says 'compile, a format of Scheme that is not read here' 1 "$(head -n 1 said)" -q -c unread
+  says 'compile, a format of Scheme that is not read here, --no-gnu' 0 '' --no-gnu -q -c unread
   # (a later GNU msgfmt may know more formats)
   printf '#!/bin/sh\nfor it; do shift; [ "$it" = --check ] || set -- "$@" "$it"; done\nexec "%s" "$@"\n' "$gnu" > later
   chmod 755 later
