@@ -8,15 +8,22 @@
 #include <string.h>
 #include <unistd.h>
 
-enum { WARNING_RULE = KOB_PO_NEWLINE_MISMATCH - KOB_PO_TOO_LARGE + 1, FLAGS_RULE, TROUBLE_RULE, FORMATS_RULE, RULE_COUNT };
+/* The faults of PO texts up to KOB_PO_NEWLINE_MISMATCH are rules of their own, which come first. */
+enum { WARNING_RULE = KOB_PO_NEWLINE_MISMATCH - KOB_PO_TOO_LARGE + 1, FLAGS_RULE, TROUBLE_RULE, FORMATS_RULE,
+       CHARACTER_RULE, READ_BACK_RULE, RULE_COUNT };
 
-/* The number of a catalogue's rule: its fault among those of PO texts, or one of those after them. */
+/* Return the number of a catalogue's rule. */
 static int rule_of(const struct catalogue *it) {
     if (it->outcome != IS_REFUSED)
         return TROUBLE_RULE;
     if (it->formats.count)
         return FORMATS_RULE;
-    return it->fault == KOB_NO_FAULT ? FLAGS_RULE : (int)it->fault - KOB_PO_TOO_LARGE;
+    switch (it->fault) {
+    case KOB_NO_FAULT: return FLAGS_RULE;
+    case KOB_PO_NO_CHARACTER: return CHARACTER_RULE;
+    case KOB_PO_NOT_READ_BACK: return READ_BACK_RULE;
+    default: return (int)it->fault - KOB_PO_TOO_LARGE;
+    }
 }
 
 static const char *text_of_rule(int rule) {
@@ -26,6 +33,8 @@ static const char *text_of_rule(int rule) {
         return "flags in a line of #=";
     if (rule == FORMATS_RULE)
         return "format not valid or with other arguments";
+    if (rule == CHARACTER_RULE || rule == READ_BACK_RULE)
+        return kob_fault_text(rule == CHARACTER_RULE ? KOB_PO_NO_CHARACTER : KOB_PO_NOT_READ_BACK);
     return rule == TROUBLE_RULE ? "file not readable or not writable"
                                 : kob_fault_text((enum kob_fault)(rule + KOB_PO_TOO_LARGE));
 }

@@ -544,6 +544,9 @@ printf 'msgid ""\nmsgstr "Language: fr\\n"\n' > json/fields.po
 run --json --no-gnu -c --sarif=sarif json
 if python3 -B "$top/tests/compile/machines.py" out sarif "$program" > machines 2>&1; then cat machines
 else failed 'compile, JSON and SARIF' "$(tail -n 2 machines)"; fi
+mkdir rules && { header ISO-8859-3 mt && printf 'msgid "a"\nmsgstr "\245"\n'; } > rules/mt.po
+run --no-gnu --check -q --sarif=- rules
+holds 'compile, SARIF: the rule of a byte without a character' grep -q '"ruleId": "byte-without-a-character"' out
 says 'compile, --sarif that cannot be written' 3 'kob-compile: cannot write none/x: No such file or directory' -q --sarif=none/x again
 run -q --sarif=- again
 holds 'compile, --sarif=-' python3 -c 'import json,sys; json.load(open(sys.argv[1]))' out
