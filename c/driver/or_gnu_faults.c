@@ -172,9 +172,9 @@ static bool say(struct format_fault *said, const kob_format_fault *fault, const 
 
 /* ---- all faults */
 
-/* Go on to the entry whose `msgstr` stands on this line. */
+/* Go on to the entry whose `msgstr` stands on this line, and whose flags are those that libkobdzila reads. */
 static bool find_entry(struct reader *reader, struct entry *entry, unsigned line) {
-    while (entry->msgstr_line != line || entry->is_obsolete || !entry->flags.checked)
+    while (entry->msgstr_line != line || entry->is_obsolete || !entry->flags.our_checked)
         if (!read_entry(reader, entry))
             return false;
     return true;

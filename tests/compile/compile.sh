@@ -521,6 +521,12 @@ assert places == [6, 14], places
 assert [one["message"]["text"] for one in run["results"]] == [one["why"] for one in it["formats"]], run
 END
 else failed 'compile, formats of Python: JSON and SARIF' "$(tail -n 1 machines)"; fi
+mkdir flagged && {
+  header UTF-8 fr && printf '#, python-format\n#, no-wrap\nmsgid "%%(n)d"\nmsgstr "%%(o)d"\n\n'
+  printf '#, python-format\nmsgid "%%(a)s"\nmsgstr "%%(b)s"\n'
+} > flagged/fr.po
+says 'compile, formats of Python, two lines of flags' 1 "flagged/fr.po:7: a format specification for argument 'n' doesn't exist in 'msgstr'
+flagged/fr.po:11: a format specification for argument 'a' doesn't exist in 'msgstr'" --no-gnu -q -c flagged
 if [ -n "$gnu" ]; then
   says 'compile, formats of Python that GNU msgfmt refuses, too' 1 "$first
 $last" -q -c formats
