@@ -149,8 +149,8 @@ unsigned tenths_of(size_t part, size_t whole);
 
 /* Compile, and again on each change, until a signal stops it. */
 enum status watch(struct run *run);
-/* Hear of changes in this folder. */
-void watch_folder(struct watcher *watcher, const char *path);
+/* Hear of changes in this folder, and if it is taken away where no folder above it is watched. */
+void watch_folder(struct watcher *watcher, const char *path, bool is_given);
 /* Whether this PO file was changed since the last search. */
 bool was_changed(const struct watcher *watcher, const char *path);
 

@@ -215,9 +215,9 @@ static void look_into(struct search *search, int parent, const char *name, const
     struct listing listing = {0};
     if (stopped_by)
         return;
-    if (search->watcher) /* (before it is read, so that nothing comes between) */
-        watch_folder(search->watcher, path);
     bool is_given = parent == AT_FDCWD;
+    if (search->watcher) /* (before it is read, so that nothing comes between) */
+        watch_folder(search->watcher, path, is_given);
     int file = openat(parent, name, O_RDONLY | O_DIRECTORY | O_CLOEXEC | (is_given ? 0 : O_NOFOLLOW));
     DIR *folder = file < 0 ? NULL : fdopendir(file);
     if (!folder) {
@@ -268,7 +268,7 @@ static void look_at_place(struct search *search, const char *place) {
         if (search->watcher) {
             const char *slash = strrchr(path, '/');
             char *folder = slash ? text_of("%.*s", (int)(slash - path) + (slash == path), path) : text_of(".");
-            watch_folder(search->watcher, folder);
+            watch_folder(search->watcher, folder, true);
             free(folder);
         }
         add_file(search, path, &about);

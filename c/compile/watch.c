@@ -14,11 +14,19 @@
 #include <unistd.h>
 
 enum { QUIET = 30, MOST_QUIETS = 10 }; /* milliseconds without a change that end a moment, and how many at most */
-enum { CHANGES = IN_CLOSE_WRITE | IN_MOVED_TO | IN_CREATE };
+enum { PAUSE = 500 }; /* milliseconds between two looks for an argument that isn't there */
+enum { CHANGES = IN_CLOSE_WRITE | IN_MOVED_TO | IN_CREATE | IN_MOVE_SELF };
+
+struct folder {
+    char *path;    /* NULL if no folder has this number */
+    bool is_given; /* it is an argument, or that of a file which is one: no folder above it is watched */
+};
 
 struct watcher {
+    const struct options *options;
+    int there; /* how many of the arguments are there, as far as was heard */
     int inotify;
-    char **folders; /* by the number of their watch */
+    struct folder *folders; /* by the number of their watch */
     size_t folder_count;
     char **changed; /* PO files */
     size_t changed_count;
@@ -30,7 +38,7 @@ struct watcher {
 
 /* ---- folders */
 
-void watch_folder(struct watcher *watcher, const char *path) {
+void watch_folder(struct watcher *watcher, const char *path, bool is_given) {
     int number = inotify_add_watch(watcher->inotify, path, CHANGES | IN_ONLYDIR);
     if (number < 0) {
         if (errno != ENOENT && !watcher->is_full)
@@ -41,16 +49,30 @@ void watch_folder(struct watcher *watcher, const char *path) {
     }
     if ((size_t)number >= watcher->folder_count) {
         size_t count = 2 * (size_t)number + 2;
-        char **folders = realloc(watcher->folders, count * sizeof *folders);
+        struct folder *folders = realloc(watcher->folders, count * sizeof *folders);
         if (!folders)
             stop_for_memory();
         for (size_t place = watcher->folder_count; place < count; place++)
-            folders[place] = NULL;
+            folders[place] = (struct folder){0};
         watcher->folders = folders;
         watcher->folder_count = count;
     }
-    free(watcher->folders[number]);
-    watcher->folders[number] = text_of("%s", path);
+    free(watcher->folders[number].path);
+    watcher->folders[number] = (struct folder){text_of("%s", path), is_given};
+}
+
+/* Count the arguments that are there. */
+static int count_places(const struct options *options) {
+    int count = 0;
+    for (int place = 0; place < options->place_count; place++)
+        count += access(options->places[place], F_OK) == 0;
+    return count;
+}
+
+/* Look for an argument that has come back, or has come at last: all in it may have changed. */
+static void look_for_places(struct watcher *watcher) {
+    if (count_places(watcher->options) > watcher->there)
+        watcher->has_lost = watcher->has_news = true;
 }
 
 bool was_changed(const struct watcher *watcher, const char *path) {
@@ -99,15 +121,19 @@ static void take_event(struct watcher *watcher, const struct inotify_event *even
         watcher->has_lost = watcher->has_news = true;
         return;
     }
-    if (event->wd < 0 || number >= watcher->folder_count || !watcher->folders[number])
+    if (event->wd < 0 || number >= watcher->folder_count || !watcher->folders[number].path)
         return;
-    if (event->mask & IN_IGNORED) {
-        free(watcher->folders[number]);
-        watcher->folders[number] = NULL;
+    struct folder *folder = &watcher->folders[number];
+    if (event->mask & IN_MOVE_SELF && folder->is_given) {
+        inotify_rm_watch(watcher->inotify, event->wd); /* (then it is ignored) */
+    } else if (event->mask & IN_IGNORED) {
+        watcher->there -= folder->is_given;
+        free(folder->path);
+        *folder = (struct folder){0};
     } else if (event->len && (event->mask & IN_ISDIR || !strcmp(event->name, "LINGUAS"))) {
         watcher->has_news |= event->name[0] != '.';
     } else if (event->len && is_po_name(event->name)) {
-        add_change(watcher, watcher->folders[number], event);
+        add_change(watcher, folder->path, event);
     }
 }
 
@@ -138,8 +164,10 @@ static bool hear(struct watcher *watcher, int milliseconds) {
 
 /* Wait until something has changed, and then nothing for a moment. False if a signal came. */
 static bool wait_for_changes(struct watcher *watcher) {
-    while (!watcher->has_news && !stopped_by)
-        hear(watcher, -1);
+    while (!watcher->has_news && !stopped_by) {
+        hear(watcher, watcher->there < watcher->options->place_count ? PAUSE : -1);
+        look_for_places(watcher);
+    }
     for (int count = 0; count < MOST_QUIETS && hear(watcher, QUIET); count++)
         continue;
     return !stopped_by;
@@ -183,6 +211,7 @@ static enum status compile_round(struct run *run, struct watcher *watcher, bool 
     run->catalogues = (struct catalogues){0};
     run->finished = 0;
     clock_gettime(CLOCK_MONOTONIC, &run->start);
+    watcher->there = count_places(&run->options);
     if (find_catalogues(run, watcher) == USAGE) {
         free_catalogues(&run->catalogues);
         run->catalogues = before;
@@ -204,7 +233,7 @@ static enum status compile_round(struct run *run, struct watcher *watcher, bool 
 }
 
 enum status watch(struct run *run) {
-    struct watcher watcher = {.inotify = raised(inotify_init1(IN_NONBLOCK | IN_CLOEXEC))};
+    struct watcher watcher = {.options = &run->options, .inotify = raised(inotify_init1(IN_NONBLOCK | IN_CLOEXEC))};
     if (watcher.inotify < 0) {
         tell("kob-compile: cannot watch files: %s", strerror(errno));
         return TROUBLE;
@@ -217,7 +246,7 @@ enum status watch(struct run *run) {
         compile_round(run, &watcher, false);
     forget_changes(&watcher);
     for (size_t place = 0; place < watcher.folder_count; place++)
-        free(watcher.folders[place]);
+        free(watcher.folders[place].path);
     free(watcher.folders);
     close(watcher.inotify);
     return status;

@@ -189,6 +189,33 @@ def look_at_names() -> None:
     judge("names of files with dots and slashes", wrong)
 
 
+def look_at_places() -> None:
+    """Arguments that are taken away and come back, as where git changes to a branch without them, or that come late."""
+    place, text = Path("place"), text_of(4, False)
+    mo = wanted_for(text)
+
+    def save() -> None:
+        place.mkdir()
+        save_by_rename(place / "fr.po", text)
+
+    save()
+    watching = Watching("place", "late/fr.po")
+    waits_for(lambda: has(place / "fr.mo", mo))
+    time.sleep(0.2)
+    shutil.rmtree(place)
+    save()
+    judge("a folder that is made anew", "" if waits_for(lambda: has(place / "fr.mo", mo)) else "no MO file")
+    time.sleep(0.2)
+    os.replace(place, "elsewhere")
+    time.sleep(0.2)
+    save()
+    judge("a folder that takes the place of another", "" if waits_for(lambda: has(place / "fr.mo", mo)) else "no MO file")
+    Path("late").mkdir()
+    save_by_rename(Path("late/fr.po"), text)
+    judge("a file that comes late", "" if waits_for(lambda: has(Path("late/fr.mo"), mo)) else "no MO file")
+    watching.stop()
+
+
 def main() -> None:
     signal.signal(signal.SIGINT, signal.SIG_DFL)  # (ignored in a background job of a shell, and so in its children)
     shutil.rmtree(ROOM, ignore_errors=True)
@@ -202,6 +229,7 @@ def main() -> None:
     left = [str(it) for it in ROOM.rglob(".*") if it.name not in (".", "..")]
     judge("no leftover", "" if not left else str(left))
     look_at_names()
+    look_at_places()
 
 
 if __name__ == "__main__":
