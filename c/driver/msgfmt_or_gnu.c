@@ -549,11 +549,12 @@ static void keep_changed(struct run *run) {
         stop("cannot keep the converted text: ", strerror(errno));
 }
 
-/* Convert the text if its charset asks for it. A text with a byte that has no character is left to GNU msgfmt. */
+/* Convert the text if its charset asks for it. A text with a byte that has no character is left to GNU msgfmt, and so is
+ * one whose charset is to stay; libkobdzila would convert it, too. */
 static void recode(struct run *run, char *why) {
     struct text *utf8 = &run->utf8;
     struct part text = {run->text.bytes, run->text.bytes + run->text.len};
-    enum recoding done = recode_text(text, &utf8->bytes, &utf8->len);
+    enum recoding done = run->request->keeps_charset ? AS_IT_IS : recode_text(text, &utf8->bytes, &utf8->len);
     if (done == NO_MEMORY)
         stop_for_memory();
     if (done == NO_CHARACTER)
@@ -655,7 +656,7 @@ _Noreturn static void drive(struct run *run) {
         end_by_gnu(run, why);
     if (needs.format && has_library())
         check_formats(run, needs.format, why);
-    run->is_dependent = needs.is_dependent && has_library();
+    run->is_dependent = needs.is_dependent && has_library() && !(request->keeps_charset && needs.helps);
     run->header_line = needs.header_line;
     run->plain_macros = needs.plain_macros;
     if (!run->is_dependent) { /* (msgfmt reads the file for itself) */

@@ -31,7 +31,7 @@ struct request {
     const char **folders; /* where relative PO files are looked for (-D) */
     int folder_count;
     bool checks_format, checks_header, checks_compatibility;
-    bool keeps_fuzzy, wants_statistics;
+    bool keeps_fuzzy, keeps_charset, wants_statistics;
     int verbosity;
     bool wants_version, wants_help;
     char why[WHY_SIZE]; /* why only GNU msgfmt can serve it, as it is shown, or empty */

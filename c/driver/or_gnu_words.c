@@ -8,7 +8,7 @@
 #include <unistd.h>
 
 enum { NO_LETTER = 256, CHECK_DOMAIN, CHECK_FORMAT, CHECK_HEADER, ENDIANNESS, NO_CONVERT, NO_HASH, STATISTICS };
-enum { REDUNDANCY = NO_CONVERT }; /* neither matters for a UTF-8 text that Kobdzila's msgfmt compiles */
+enum { REDUNDANCY = NO_HASH }; /* neither matters for what is compiled here */
 
 static const char letters[] = "a:cCd:D:fhjl:L:o:Pr:vVx";
 
@@ -90,7 +90,7 @@ static bool take_flag(struct request *request, int code) {
     case CHECK_FORMAT: request->checks_format = true; break;
     case CHECK_HEADER: request->checks_header = true; break;
     case CHECK_DOMAIN: break; /* it warns about `domain` lines, and texts with those go to GNU msgfmt anyway */
-    case NO_CONVERT: break;
+    case NO_CONVERT: request->keeps_charset = true; break;
     case NO_HASH: break;
     case STATISTICS: request->wants_statistics = true; break;
     default: return false;

@@ -93,6 +93,18 @@ is_of 'driver, a byte that is no character' 'GNU\t1\ta byte that is no character
 { printf 'msgid "a"\nmsgstr "\374"\n\n' && header ISO-8859-1 de; } > late.po
 is_of 'driver, a header that comes late' 'GNU\t0\tcharset=ISO-8859-1\tlate.po' /dev/null "$gnu" -o x.mo late.po
 
+# with --no-convert the charset stays, which is GNU's, if that knows the option
+"$gnu" --no-convert -o x.mo latin.po 2> err
+is_of 'driver, --no-convert' "GNU\t$?\tcharset=ISO-8859-2\tlatin.po" /dev/null "$gnu" --no-convert -o x.mo latin.po
+{ text ISO-8859-1 && printf '\n#, c-format\nmsgid "%%<PRIu64>"\nmsgstr "%%<PRIu64>"\n'; } > macros.po
+for it in latin.po macros.po; do
+  rm -f x.mo
+  env -u GNU_MSGFMT PATH=/nonexistent "$driver" --no-convert -o x.mo $it 2> err
+  status=$?
+  if [ $status = 1 ] && [ ! -e x.mo ]; then ok "driver, --no-convert without GNU msgfmt, $it"
+  else failed "driver, --no-convert without GNU msgfmt, $it" "$status, $(cat err)"; fi
+done
+
 # another entry names a charset; lines end with CRLF; comments stand before the header
 { header ISO-8859-1 de && printf 'msgid "charset=latin1"\nmsgstr "charset=EUC-JP \374"\n'; } > other.po
 converted 'charset= outside of the header' other.po
