@@ -113,10 +113,11 @@ int descriptor_of(const char *path) {
 
 /* --- running -------------------------------------------------------------------------------------------------- */
 
-static volatile sig_atomic_t child;
+static volatile sig_atomic_t child, handed_on; /* the program that runs, and the signal that it was passed, or 0 */
 
 static void hand_on(int number) {
     if (child > 0) {
+        handed_on = number;
         kill((pid_t)child, number);
         return;
     }
@@ -244,6 +245,8 @@ static int ask_version(const char *path, char *answer, size_t room) {
         cause = errno;
     if (!cause) {
         struct ending ending = run_program(path, words, (struct streams){none, out, none, -1, -1});
+        if (handed_on) /* (it was for this program, which only asks the other one) */
+            end_as((struct ending){.status = 128 + handed_on, .signal = handed_on});
         ssize_t len = pread(out, answer, room - 1, 0);
         answer[len > 0 ? len : 0] = '\0';
         cause = is_shortage(ending.failure) ? ending.failure : ending.failure || ending.status ? ENOEXEC : 0;

@@ -352,6 +352,19 @@ status=$?
 if [ $status = 7 ] && grep -qx caught err; then ok 'driver, a signal is handed on'
 else failed 'driver, a signal is handed on' "status $status, '$(cat err)'"; fi
 
+mkdir asked && printf '#!/bin/sh\n: > "%s"\nexec sleep 5\n' "$room/asked/now" > asked/msgfmt && chmod 755 asked/msgfmt
+(unset GNU_MSGFMT && PATH=$room/asked:$PATH && exec "$driver" -o x.mo charset.po) 2> err &
+it=$!
+for _ in $(seq 100); do
+  [ ! -e asked/now ] || break
+  sleep 0.05
+done
+kill -TERM $it
+wait $it
+status=$?
+if [ $status = 143 ]; then ok 'driver, a signal while a program on the PATH is asked for its version'
+else failed 'driver, a signal while a program on the PATH is asked for its version' "status $status, '$(cat err)'"; fi
+
 # --- the two programs: links, copies, none of GNU's, none of ours -----------------------------------------------------
 
 mkdir links copies wrapped
