@@ -537,7 +537,8 @@ _Noreturn static void compile_text(struct run *run, const char *why) {
     if (refusal && has_gnu(run))
         end_by_gnu(run, refusal);
     const char *reason = *why ? why : refusal ? refusal : "";
-    end_by_ours(run, &answer, reason, refusal || answer.ending.status);
+    bool is_refused = refusal || (answer.ending.status && !has_not_written(&answer));
+    end_by_ours(run, &answer, reason, is_refused);
 }
 
 /* Keep the text that was converted or changed where Kobdzila's msgfmt reads it. */

@@ -406,6 +406,8 @@ logs 'driver, no GNU msgfmt, the log of it' \
   'ours\t0\tscheme-format that is not read here; no GNU msgfmt\tscheme.po'
 found 'no GNU msgfmt, a refusal' 1 "twice.po:6: duplicate message
 $missing (duplicate message); it is in the package gettext" -o x.mo twice.po
+found 'no GNU msgfmt, a folder that is not there' 1 "msgfmt: cannot write no/x.mo
+msgfmt-or-gnu: no/x.mo: No such file or directory" -o no/x.mo newline.po
 found 'no GNU msgfmt, an option of its' 1 "msgfmt-or-gnu: --strict: $needed" --strict -o x.mo ours.po
 found 'no GNU msgfmt, a bad option' 1 "msgfmt-or-gnu: bad option --nope: $needed" --nope ours.po
 found 'no GNU msgfmt, no such file' 1 'msgfmt-or-gnu: cannot read none.po: No such file or directory' none.po
