@@ -268,6 +268,14 @@ def options_of_programs_in_c():
     return [why for program in OPTIONS_IN_C for why in options_in_c(program)]
 
 
+def reasons_of_the_driver():
+    """the reasons for which msgfmt-or-gnu leaves a text to GNU msgfmt are in its man page"""
+    # (one without a blank is a flag, such as objc-format)
+    reasons = re.findall(r'needs_gnu_for\(&?scan, "([^"]* [^"]*)"\)', read("c/driver/or_gnu_text.c"))
+    missing = sorted(it for it in reasons if it not in page(DRIVER_PAGE))
+    return [f"{DRIVER_PAGE} has not: {missing}"] if missing or not reasons else []
+
+
 def warnings_of_the_driver():
     """the lines of msgfmt that msgfmt-or-gnu looks for"""
     source = read("c/driver/msgfmt_or_gnu.c")
@@ -735,6 +743,7 @@ RULES = (
     options_of_the_driver,
     options_of_the_fleet,
     options_of_programs_in_c,
+    reasons_of_the_driver,
     warnings_of_the_driver,
     lines_of_the_command,
     fields_of_a_header,

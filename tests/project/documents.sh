@@ -105,6 +105,7 @@ c/compile/options.c^{"watch",^{"follow",
 c/unfmt/options.c^{"no-wrap",^{"nowrap",
 c/compile/options.c^--no-gnu  ^--only-us 
 c/driver/msgfmt_or_gnu.c^warning: header field^warning: field
+c/driver/or_gnu_text.c^"an obsolete duplicate"^"an obsolete double"
 README.md^(docs/guide/rattle.md)^(docs/guide/rattles.md)
 docs/reference/po.md^(headers.md)^(headers.md#headings)
 docs/reference/po.md^(c-formats.md)^(../guide/c.md)
