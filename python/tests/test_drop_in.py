@@ -447,22 +447,23 @@ print(standard.textdomain(), gettext.gettext("usage: "), gettext._localedirs is 
 
     def test_names(self) -> None:
         """What the standard module has, and programs reach for."""
+        package: Any = kobdzila  # (a type checker knows the public names alone)
         for name in ("_expand_lang", "c2py", "_localedirs", "_translations", "_default_localedir", "_current_domain"):
             self.assertTrue(hasattr(kobdzila, name), name)
         with self.assertRaises(AttributeError):
-            kobdzila._no_such_name
+            package._no_such_name
         with self.assertRaises(AttributeError):
-            kobdzila.os
+            package.os
         self.assertLessEqual({*gettext.__all__} - {"lgettext", "ldgettext", "lngettext", "ldngettext",
                                                    "bind_textdomain_codeset"}, {*kobdzila.__all__})
         for name in kobdzila.__all__:
             getattr(kobdzila, name)
         self.assertLessEqual({*kobdzila.__all__}, {*dir(kobdzila)})
-        kept, kobdzila._translations = kobdzila._translations, {}
+        kept, package._translations = package._translations, {}
         try:
-            self.assertIs(kobdzila._gettext._translations, kobdzila._translations)
+            self.assertIs(kobdzila._gettext._translations, package._translations)
         finally:
-            kobdzila._translations = kept
+            package._translations = kept
 
     def test_patched(self) -> None:
         """What a program sets in the module, the functions of the module use, until it is taken back."""
@@ -494,8 +495,9 @@ print(standard.textdomain(), gettext.gettext("usage: "), gettext._localedirs is 
                     self.assertEqual(patched(NullTranslations=Shouts)[0], "BASKET")
                     self.assertEqual(patched(_translations={}), plain)
                     self.assertEqual(answers(), plain)
+        package: Any = kobdzila
         with self.assertRaises(AttributeError):
-            del kobdzila.nothing
+            del package.nothing
 
     def test_import(self) -> None:
         """`import kobdzila` reads none of the modules that only some programs need."""

@@ -9,6 +9,7 @@ from pathlib import Path
 from typing import Any
 
 import kobdzila
+import kobdzila.fleet
 from kobdzila import Catalogue, FileRefused, LazyText, Refused, Session, Snapshot, Store, Watch
 from typing_extensions import assert_type
 
@@ -28,6 +29,13 @@ def catalogues(path: Path) -> None:
         Catalogue.from_po(memoryview(b""))
     except Refused as refused:
         assert_type((refused.line, refused.fault, refused.text), tuple[int, kobdzila.Fault, str])
+
+
+def misspelt() -> None:
+    """A name that the package doesn't have is a mistake, also where modules are imported when one of theirs is used."""
+    kobdzila.getext("a")  # type: ignore[attr-defined]
+    kobdzila.fleet.Folower  # type: ignore[attr-defined]
+    assert_type(kobdzila.fleet.Version(1).token, str)
 
 
 class Own(kobdzila.GNUTranslations):

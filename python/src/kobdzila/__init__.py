@@ -131,18 +131,19 @@ _USED = ("_translations", "find", "GNUTranslations", "NullTranslations", "transl
          "dngettext", "dpgettext", "dnpgettext")
 
 
-def __getattr__(name: str) -> Any:
-    """Return a name of a module that is imported later, or a private name of the standard module gettext."""
-    if name in _MODULES:
-        from importlib import import_module
+if not TYPE_CHECKING:  # (a checker would take it for a promise of any name)
+    def __getattr__(name: str) -> Any:
+        """Return a name of a module that is imported later, or a private name of the standard module gettext."""
+        if name in _MODULES:
+            from importlib import import_module
 
-        value = globals()[name] = getattr(import_module(f"{__name__}.{_MODULES[name]}"), name)
-        return value
-    if name == "_translations":
-        return _gettext._translations
-    if name == "c2py" or name.startswith("_") and not name.startswith("__"):
-        return getattr(_standard, name)
-    raise AttributeError(f"module {__name__!r} has no attribute {name!r}")
+            value = globals()[name] = getattr(import_module(f"{__name__}.{_MODULES[name]}"), name)
+            return value
+        if name == "_translations":
+            return _gettext._translations
+        if name == "c2py" or name.startswith("_") and not name.startswith("__"):
+            return getattr(_standard, name)
+        raise AttributeError(f"module {__name__!r} has no attribute {name!r}")
 
 
 def __dir__() -> list[str]:

@@ -58,10 +58,10 @@ _LATER = {
     "_web": ("ASGIMiddleware", "WSGIMiddleware"),
 }
 
-
-def __getattr__(name: str) -> Any:
-    """Import a name when it is first used, so that `kob-fleet --help` works without psycopg."""
-    for module, names in _LATER.items():
-        if name in names:
-            return getattr(import_module(f"{__name__}.{module}"), name)
-    raise AttributeError(f"module {__name__!r} has no attribute {name!r}")
+if not TYPE_CHECKING:  # (a checker would take it for a promise of any name)
+    def __getattr__(name: str) -> Any:
+        """Import a name when it is first used, so that `kob-fleet --help` works without psycopg."""
+        for module, names in _LATER.items():
+            if name in names:
+                return getattr(import_module(f"{__name__}.{module}"), name)
+        raise AttributeError(f"module {__name__!r} has no attribute {name!r}")
