@@ -82,11 +82,13 @@ async def coroutine(store: Store) -> None:
         assert_type(texts.gettext("a"), str)
 
 
-def lazy(store: Store) -> None:
+def lazy(store: Store, follower: kobdzila.fleet.Follower) -> None:
     assert_type(kobdzila.lazy_gettext("a"), LazyText)
     with kobdzila.using(store.snapshot("fr")) as texts:
         assert_type(texts, Snapshot)
         assert_type(kobdzila.current_snapshot.get().gettext("a"), str)
+    with kobdzila.using(follower.snapshot(languages="fr")) as followed:
+        assert_type(followed, kobdzila.fleet.FollowerSnapshot)
     assert_type(kobdzila.LazyTranslations().pgettext("menu", "a"), str)
 
 

@@ -11,6 +11,9 @@ from . import _kobdzila
 
 if TYPE_CHECKING:
     from ._store import Snapshot
+    from .fleet._store import FollowerSnapshot
+
+    AnySnapshot = TypeVar("AnySnapshot", bound=Snapshot | FollowerSnapshot)
 
 
 class Texts(Protocol):
@@ -31,7 +34,7 @@ kobdzila.django set it in each request, and `using` in a `with`. Elsewhere there
 
 
 @contextmanager
-def using(snapshot: Snapshot) -> Iterator[Snapshot]:
+def using(snapshot: AnySnapshot) -> Iterator[AnySnapshot]:
     """Make `snapshot` the current one in a `with`, at whose end it is closed.
 
     >>> import kobdzila
@@ -47,7 +50,8 @@ def using(snapshot: Snapshot) -> Iterator[Snapshot]:
     basket
     """
     with snapshot:
-        token = current_snapshot.set(snapshot)
+        texts: Any = snapshot
+        token = current_snapshot.set(texts)
         try:
             yield snapshot
         finally:
