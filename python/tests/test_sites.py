@@ -213,13 +213,16 @@ FLASK = r'''
 import os, sys, time
 from functools import cached_property
 from pathlib import Path
+from threading import Barrier, Lock, Thread
+from unittest import mock
 
 sys.path[:0] = sys.argv[1].split("|")
 FOLDER, PO, IS_LATER = Path(sys.argv[2]), sys.argv[3], "later" in sys.argv
 import warnings
 warnings.simplefilter("ignore")  # (of the module cgi, which Babel 2.10 imports)
 import flask_babel
-from flask import Flask, current_app, has_request_context, render_template_string, request
+from flask import (
+    Flask, copy_current_request_context, current_app, has_request_context, render_template_string, request)
 from flask_babel import Babel, force_locale, gettext, lazy_gettext, ngettext, npgettext, pgettext
 import kobdzila, kobdzila.flask
 
@@ -296,6 +299,41 @@ def page():
     return "\n".join(texts)
 
 
+def in_threads(work, count):
+    """Do some work in threads that have copies of the request's context."""
+    threads = [Thread(target=copy_current_request_context(work)) for _ in range(count)]
+    for thread in threads:
+        thread.start()
+    for thread in threads:
+        thread.join()
+
+
+@app.get("/threads")
+def threads():
+    texts, seen = flask_babel.get_translations(), []
+    for name in ("one", "two"):
+        in_threads(lambda: seen.append(gettext("basket")), 1)
+        load("fr", name)
+    return " ".join([*seen, gettext("basket"), texts.gettext("basket")])
+
+
+@app.get("/at-once")
+def at_once():
+    """Two threads are the first to look up. Each makes a snapshot, of another version, before the other has kept its own."""
+    seen, made, turn, both = [], store.snapshot, Lock(), Barrier(2)
+
+    def slowly(*words):
+        with turn:
+            found = made(*words)
+            load("fr", "three")
+        both.wait(60)
+        return found
+
+    with mock.patch.object(store, "snapshot", slowly):
+        in_threads(lambda: seen.append(gettext("basket")), 2)
+    return " ".join([*seen, gettext("basket")])
+
+
 def load(locale, name):
     store.load("messages", locale, PO.replace("{0}", name).encode())
     store.publish()
@@ -321,6 +359,10 @@ assert get("en")[:3] == ["basket"] * 3
 assert get("pt-BR")[:3] == ["cesta"] * 3
 with app.app_context():
     assert gettext("basket") == "corbeille"
+for path in ("/threads", "/at-once"):
+    answer = app.test_client().get(path, headers={"Accept-Language": "fr"}).text
+    assert len(set(answer.split())) == 1, f"{path} has two versions: {answer}"
+    assert store.retained == 0, f"{path} leaves a snapshot"
 # the whole interface of Babel's translations
 from babel.support import NullTranslations
 with app.test_request_context(headers={"Accept-Language": "fr"}):

@@ -43,7 +43,7 @@ def init_app(app: Any, store: Store) -> None:
     texts = Current(domain)
     # (before the functions of the application, of which one may answer the request)
     app.before_request_funcs.setdefault(None, []).insert(0, texts.begin)
-    app.teardown_request(_close)
+    app.teardown_request(_drop)
 
 
 class Domain(flask_babel.Domain):  # type: ignore[misc]
@@ -63,7 +63,7 @@ class Domain(flask_babel.Domain):  # type: ignore[misc]
         kept = _kept()
         found = kept.get(id(self.store))
         if found is None:
-            found = kept[id(self.store)] = self.store.snapshot("", self.name)
+            found = kept.setdefault(id(self.store), self.store.snapshot("", self.name))
         return found
 
 
@@ -76,6 +76,7 @@ class Current:
     def begin(self) -> None:
         """Make this what lazy messages look up in. It may stay so: between requests there is no locale, and no
         translation."""
+        _kept()  # (here asks the request's own context, before any copy of it can)
         current_snapshot.set(self)
 
     def gettext(self, message: str) -> str:
@@ -92,14 +93,19 @@ class Current:
 
 
 def _kept() -> dict[int, Snapshot]:
-    """Return the snapshots of the request."""
-    found: dict[int, Snapshot] = flask.request.environ.setdefault(KEY, {})
+    """Return the snapshots of the request. Copies of its context, as other threads have them, share these. The context
+    that asks first drops them at its end."""
+    environ = flask.request.environ
+    found: dict[int, Snapshot] | None = environ.get(KEY)
+    if found is None:
+        found = environ.setdefault(KEY, {})
+        setattr(flask.g, KEY, found)
     return found
 
 
-def _close(fault: BaseException | None) -> None:
-    for snapshot in flask.request.environ.pop(KEY, {}).values():
-        snapshot.close()
+def _drop(fault: BaseException | None) -> None:
+    if flask.g.pop(KEY, None) is not None:
+        flask.request.environ.pop(KEY, {}).clear()  # (a snapshot closes itself when no thread looks up in it any more)
 
 
 class Translations(NullTranslations):  # type: ignore[misc]
