@@ -9,6 +9,7 @@ import sys
 import tempfile
 import unittest
 import warnings
+from collections.abc import Callable
 from datetime import date
 from pathlib import Path
 from typing import Any
@@ -111,6 +112,20 @@ class JinjaTest(unittest.TestCase):
             store.publish()
         environment.install_gettext_translations(store.snapshot("fr"))
         self.assertEqual(environment.from_string(OLD_STYLE).render(n=5), "5 fichiers supprimés commander")
+
+    def test_lazy_texts(self) -> None:
+        """A lazy text is escaped once, or not at all where it is marked as safe, as the str is that it stands for."""
+        from jinja2 import Environment
+
+        markupsafe: Any = importlib.import_module("markupsafe")
+        markup, text = markupsafe.Markup, "I accept the <a href='/terms'>terms</a> & \"more\""
+        page = Environment(autoescape=True).from_string("{{ it }}|{{ it|safe }}|{{ it|e }}|{{ '<b>%s</b>'|safe % it }}")
+        works: list[Callable[[Any], object]] = [
+            lambda it: page.render(it=it), markup, markupsafe.escape, lambda it: markup("<b>%s</b>") % it,
+            lambda it: markup("<b>{}</b>").format(it), lambda it: markup("<b>") + it, lambda it: it + markup("<b>"),
+            lambda it: markup(",").join([it, it])]
+        for number, work in enumerate(works):
+            self.assertEqual(work(kobdzila.lazy_gettext(text)), work(text), number)
 
 
 @unittest.skipUnless(there("flask"), "no Flask")

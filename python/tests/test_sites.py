@@ -210,7 +210,7 @@ print("well")
 
 # a Flask-Babel application with the three lines of the guide; `later` lets Flask-Babel 2 be as later ones are
 FLASK = r'''
-import os, sys, time
+import datetime, os, sys, time
 from functools import cached_property
 from pathlib import Path
 from threading import Barrier, Lock, Thread
@@ -222,7 +222,7 @@ import warnings
 warnings.simplefilter("ignore")  # (of the module cgi, which Babel 2.10 imports)
 import flask_babel
 from flask import (
-    Flask, copy_current_request_context, current_app, has_request_context, render_template_string, request)
+    Flask, copy_current_request_context, current_app, flash, has_request_context, jsonify, render_template_string, request)
 from flask_babel import Babel, force_locale, gettext, lazy_gettext, ngettext, npgettext, pgettext
 import kobdzila, kobdzila.flask
 
@@ -264,6 +264,7 @@ def listed(self, directories=None, domain="messages"):
 
 
 app = Flask(__name__)
+app.secret_key = "x"
 if IS_LATER:
     app.config["BABEL_DOMAIN"] = "messages;others"
 if not hasattr(Babel, "localeselector"):
@@ -317,6 +318,17 @@ def threads():
     return " ".join([*seen, gettext("basket"), texts.gettext("basket")])
 
 
+@app.get("/json")
+def as_json():
+    flash(OWN[0])
+    return jsonify(text=OWN[0], day=datetime.date(2026, 3, 1))
+
+
+@app.get("/flashed")
+def flashed():
+    return render_template_string("{% for it in get_flashed_messages() %}{{ it }}{% endfor %}")
+
+
 @app.get("/at-once")
 def at_once():
     """Two threads are the first to look up. Each makes a snapshot, of another version, before the other has kept its own."""
@@ -363,6 +375,13 @@ for path in ("/threads", "/at-once"):
     answer = app.test_client().get(path, headers={"Accept-Language": "fr"}).text
     assert len(set(answer.split())) == 1, f"{path} has two versions: {answer}"
     assert store.retained == 0, f"{path} leaves a snapshot"
+# a lazy text is JSON, also in a session, and no markup
+load("fr", "l'<b>")
+client = app.test_client()
+answer = client.get("/json", headers={"Accept-Language": "fr"}).json
+assert answer == {"text": "l'<b>", "day": "Sun, 01 Mar 2026 00:00:00 GMT"}, answer
+assert client.get("/flashed").text == "l&#39;&lt;b&gt;"
+load("fr", "corbeille")
 # the whole interface of Babel's translations
 from babel.support import NullTranslations
 with app.test_request_context(headers={"Accept-Language": "fr"}):

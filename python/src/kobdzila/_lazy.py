@@ -93,11 +93,6 @@ class LazyText:
     def __format__(self, how: str) -> str:
         return format(str(self), how)
 
-    def __html__(self) -> str:
-        import html
-
-        return html.escape(str(self))
-
     def __getattr__(self, name: str) -> Any:
         if name.startswith("__"):
             raise AttributeError(name)

@@ -25,7 +25,7 @@ from babel.support import NullTranslations
 
 from ._catalogue import charset_in, fields_of, rule_of
 from ._languages import names_of
-from ._lazy import current_snapshot
+from ._lazy import LazyText, current_snapshot
 from ._store import Snapshot, Store
 
 KEY = "kobdzila.flask"
@@ -44,6 +44,14 @@ def init_app(app: Any, store: Store) -> None:
     # (before the functions of the application, of which one may answer the request)
     app.before_request_funcs.setdefault(None, []).insert(0, texts.begin)
     app.teardown_request(_drop)
+    provider: Any = getattr(app, "json", None)  # (since Flask 2.2)
+    if hasattr(provider, "default"):
+        provider.default = _jsonable(provider.default)
+
+
+def _jsonable(default: Callable[[Any], Any]) -> Callable[[Any], Any]:
+    """Return what makes JSON of an object that isn't JSON, also of a lazy text: for a session, as `flash` writes it."""
+    return lambda it: str(it) if isinstance(it, LazyText) else default(it)
 
 
 class Domain(flask_babel.Domain):  # type: ignore[misc]
