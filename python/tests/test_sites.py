@@ -33,15 +33,28 @@ from pathlib import Path
 
 sys.path[:0] = sys.argv[1].split("|")
 import django
+from django.apps import AppConfig
 from django.conf import settings
 
 FOLDER = Path(sys.argv[2])
+
+
+class Early(AppConfig):
+    """An application that is ready before kobdzila.django, and looks something up."""
+
+    name, path = __name__, sys.argv[2]
+
+    def ready(self):
+        assert gettext("early") == "early"
+
+
 settings.configure(
     SECRET_KEY="x", ALLOWED_HOSTS=["*"], ROOT_URLCONF=__name__, USE_I18N=True, USE_TZ=True, LANGUAGE_CODE="en",
-    INSTALLED_APPS=["kobdzila.django"], LOCALE_PATHS=[str(FOLDER), str(FOLDER / "none")],
+    INSTALLED_APPS=[f"{__name__}.Early", "kobdzila.django"], LOCALE_PATHS=[str(FOLDER), str(FOLDER / "none")],
     KOBDZILA_WATCH={"every": 0.02, "settle": 0.01},
     MIDDLEWARE=["django.middleware.locale.LocaleMiddleware"],
     TEMPLATES=[{"BACKEND": "django.template.backends.django.DjangoTemplates"}])
+from django.utils.translation import gettext
 django.setup()
 
 from django.core.handlers.asgi import ASGIHandler
@@ -51,7 +64,7 @@ from django.template import engines
 from django.test import AsyncClient, Client
 from django.urls import path
 from django.utils import translation
-from django.utils.translation import gettext, gettext_lazy, ngettext, npgettext, pgettext
+from django.utils.translation import gettext_lazy, ngettext, npgettext, pgettext
 
 import kobdzila
 
@@ -146,7 +159,10 @@ def french(name):
 
 
 put("panier")
+(FOLDER / "en" / "LC_MESSAGES").mkdir(parents=True)
+(FOLDER / "en" / "LC_MESSAGES" / "django.po").write_text('msgid "early"\nmsgstr "late"\n', encoding="utf-8")
 assert str(OWN[0]) == "basket"  # (as for a command, which has the default language)
+assert gettext("early") == "late", "the default language isn't that of the stores"
 assert get("fr-CA, de") == french("panier"), get("fr-CA, de")
 
 

@@ -39,6 +39,7 @@ def start() -> None:
     """Make Django's translations live from now on."""
     global _answer
     trans_real.translation = translation
+    trans_real._default = None  # (an application that is ready earlier may have looked something up)
     if _answer is None:
         _answer, ASGIHandler.__call__ = ASGIHandler.__call__, _answer_pinned
     request_started.connect(_begin, dispatch_uid="kobdzila")
