@@ -27,9 +27,11 @@ msgstr[1] "{0} %(n)s fichiers"
 
 # a site whose settings have the two lines of the guide
 SITE = r'''
-import asyncio, os, sys, time
+import asyncio, os, signal, sys, time
 from contextvars import copy_context
 from pathlib import Path
+from threading import Event, Thread
+from unittest import mock
 
 sys.path[:0] = sys.argv[1].split("|")
 import django
@@ -161,6 +163,21 @@ def french(name):
 put("panier")
 (FOLDER / "en" / "LC_MESSAGES").mkdir(parents=True)
 (FOLDER / "en" / "LC_MESSAGES" / "django.po").write_text('msgid "early"\nmsgstr "late"\n', encoding="utf-8")
+# a process that is forked while a thread makes the stores makes its own
+from kobdzila.django import _live
+making, forked, made = Event(), Event(), _live._made
+with mock.patch.object(_live, "_made", lambda: (making.set(), forked.wait(60), made())[2]):
+    thread = Thread(target=_live.stores)
+    thread.start()
+    making.wait(60)
+    child = os.fork()
+    if not child:
+        signal.alarm(20)
+        forked.set()
+        os._exit(len(_live.stores()))
+    forked.set()
+    thread.join()
+assert os.waitpid(child, 0)[1] == 1 << 8, "a forked process has no stores"
 assert str(OWN[0]) == "basket"  # (as for a command, which has the default language)
 assert gettext("early") == "late", "the default language isn't that of the stores"
 assert get("fr-CA, de") == french("panier"), get("fr-CA, de")

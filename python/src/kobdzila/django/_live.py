@@ -1,6 +1,7 @@
 """The translations of a request: those of the stores, and after them Django's own."""
 from __future__ import annotations
 
+import os
 import threading
 from contextvars import ContextVar
 from typing import Any
@@ -137,6 +138,15 @@ def _snapshot(store: Store) -> Snapshot:
     if found is None:
         found = pins.setdefault(id(store), store.snapshot("", DOMAIN))
     return found
+
+
+def _forked() -> None:
+    """Let a child make the stores, which a thread of its parent may be making."""
+    global _making
+    _making = threading.Lock()
+
+
+os.register_at_fork(after_in_child=_forked)
 
 
 class Live(trans_real.DjangoTranslation):  # type: ignore[misc]
