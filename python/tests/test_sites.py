@@ -180,6 +180,12 @@ with mock.patch.object(_live, "_made", lambda: (making.set(), forked.wait(60), m
 assert os.waitpid(child, 0)[1] == 1 << 8, "a forked process has no stores"
 assert str(OWN[0]) == "basket"  # (as for a command, which has the default language)
 assert gettext("early") == "late", "the default language isn't that of the stores"
+# a migration has the call that makes a lazy text, and reads as the same text
+from django.db.migrations.writer import MigrationWriter
+for own in OWN:
+    written, imports = MigrationWriter.serialize(own)
+    assert written.startswith("kobdzila.lazy_") and imports == {"import kobdzila"}, written
+    assert repr(eval(written)) == repr(own), written
 assert get("fr-CA, de") == french("panier"), get("fr-CA, de")
 
 

@@ -153,6 +153,10 @@ class LazyText:
     def __reduce__(self) -> tuple[Any, ...]:
         return type(self), (self._call, self._words)
 
+    def deconstruct(self) -> tuple[str, tuple[Any, ...], dict[str, Any]]:
+        """Return the call that makes this text, as Django writes it into migrations."""
+        return f"kobdzila.lazy_{self._call}", self._words, {}
+
 
 def lazy_gettext(message: str) -> LazyText:
     """Return a lazy translation of `message`: it is looked up, when it is used, in the snapshot that is current
