@@ -300,6 +300,18 @@ class CatalogTest(unittest.TestCase):
         self.assertEqual((ours.gettext("basket"), "basket" in kept, kept.get("verb\x04order")),
                          ("basket", False, "commander"))
 
+    def test_copied(self) -> None:
+        """A copy of the mapping is a dict of its own, as with the standard class."""
+        ways: list[Callable[[Any], Any]] = [copy.copy, copy.deepcopy, lambda it: pickle.loads(pickle.dumps(it))]
+        for way in ways:
+            theirs, ours, _ = readers()
+            for _ in range(2):
+                copied = way(ours._catalog)
+                self.assertEqual((type(copied), copied), (dict, way(theirs._catalog)))
+                copied["basket"] = "corbeille"
+                self.assertEqual((ours.gettext("basket"), ours._catalog["basket"]), ("panier", "panier"))
+                ours._catalog["added"] = theirs._catalog["added"] = "ajouté"  # (a dict from now on)
+
     def test_subclasses(self) -> None:
         """Subclasses of both classes, as programs write them, see the same."""
         def numbered(base: Any) -> Any:

@@ -162,6 +162,9 @@ class Texts(AnyMapping):
         """Return the translations as a dict."""
         return dict(self.items()) if self._dict is None else self._dict.copy()
 
+    def __reduce__(self) -> tuple[Any, ...]:
+        return dict, (self.copy(),)  # (a copy of it doesn't belong to the catalogue)
+
     def __getitem__(self, key: Any) -> Any:
         if self._dict is not None:
             return self._dict[key]
