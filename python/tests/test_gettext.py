@@ -152,7 +152,7 @@ class ClassTest(unittest.TestCase):
 
     def test_header(self) -> None:
         text = r'''msgid ""
-msgstr "Content-Type: text/plain; charset=UTF-8\n#-#-#-#-#  a.po  #-#-#-#-#\nX: a\n b\n\nno colon\nY:\n"
+msgstr "Content-Type: text/plain; charset=UTF-8\n#-#-#-#-#  a.po  #-#-#-#-#\nX: a\n b\n\nno colon\nY:\n: z\n z\n"
 '''
         data = kobdzila.Catalogue.from_po(text.encode()).mo_file()
         theirs, ours = gettext.GNUTranslations(io.BytesIO(data)), GNUTranslations(data)

@@ -365,7 +365,7 @@ def fields_of(header: str) -> dict[str, str]:
         if colon:
             last = name.strip().lower()
             fields[last] = value.strip()
-        elif line and last is not None:
+        elif line and last:
             fields[last] += "\n" + line
     return fields
 
