@@ -374,6 +374,21 @@ class CommandTest(unittest.TestCase):
         self.assertIn("locale/fr/LC_MESSAGES/shop.po: x/", err)
         self.assertIn("Not a directory", err)
 
+    def test_unreadable_folder(self) -> None:
+        """A folder of locales that can't be read is passed over, as other folders are."""
+        os.chmod(".", 0o755)
+        os.chmod("node_modules/x/locale", 0)
+        before = os.geteuid()
+        try:
+            if before == 0:
+                os.seteuid(65534)  # (root reads it)
+            self.assertEqual(self.call("-n"), (0, "4 files checked\n", ""))
+            status, _, err = self.call("-n", "-d", "node_modules/x/locale")
+            self.assertEqual((status, "no PO files in node_modules/x/locale" in err), (2, True))
+        finally:
+            os.seteuid(before)
+            os.chmod("node_modules/x/locale", 0o755)
+
     def test_another_group(self) -> None:
         if os.geteuid():
             self.skipTest("only root gives a file away")

@@ -189,7 +189,7 @@ def paths_of_django() -> list[str]:
 def jobs_in(folders: Iterable[str], asked: argparse.Namespace) -> Iterator[Job]:
     domains, locales = domains_of(asked.domain), set(asked.locale)
     for folder in folders:
-        for locale in sorted(os.listdir(folder)):
+        for locale in sorted(it.name for it in listed(folder)[0]):
             if locale in asked.exclude or locales and locale not in locales:
                 continue
             for path, domain in po_files_in(os.path.join(folder, locale, FOLDER)):
