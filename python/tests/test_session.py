@@ -33,6 +33,7 @@ class SessionTest(unittest.TestCase):
             self.assertEqual(session.pgettext("shop", "fr_CA:de", "verb", "order").text, "commander")
             self.assertEqual(session.ngettext("shop", "fr", "%d file", "%d files", 2).text, "%d fichiers supprimés")
             self.assertEqual(session.npgettext("shop", "fr", "menu", "%d item", "", 1).text, "%d article")
+            self.assertEqual(session.ngettext("shop", "fr", "%d file", "%d files", True).text, "%d fichier supprimé")
             self.assertEqual(session.gettext("shop", "fr", "a\tb\\n\n").text, "a\tb\\n\n")
             answers = session.ask("shop", "de", ("gettext", "x"), ("ngettext", "a", "b", 2))
             self.assertEqual(answers, [(2, "x"), (2, "b")])

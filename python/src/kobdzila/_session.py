@@ -246,8 +246,10 @@ def _question(domain: str, languages: str, call: str | int, *texts: str | int) -
     if len(texts) != TEXTS[call]:
         raise ValueError(f"{call} takes {TEXTS[call]} texts")
     n = texts[-1]
-    if call in ("ngettext", "npgettext") and not (isinstance(n, int) and 0 <= n < 2**64):
-        raise ValueError(f"{n} is not a number from 0 to 2^64 - 1")
+    if call in ("ngettext", "npgettext"):
+        if not (isinstance(n, int) and 0 <= n < 2**64):
+            raise ValueError(f"{n} is not a number from 0 to 2^64 - 1")
+        texts = *texts[:-1], int(n)  # (True and the members of an enum have other texts)
     return _line("ask", 0, domain, languages, call, *(str(text).translate(ESCAPES) for text in texts))
 
 
