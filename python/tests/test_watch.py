@@ -189,6 +189,24 @@ class WatchTest(unittest.TestCase):
         self.assertIsNone(watch.look())
         self.assertEqual((self.text(), self.refused), ("po", []))
 
+    def test_removed_beside_a_refused_one(self) -> None:
+        """A file that is refused in place of the one that was removed is reported once, until it changes."""
+        for data, name, fault in ((b"message", "shop.po", Fault.PO_BAD_WORD), (b"# nothing\n", "shop.po", None),
+                                  (mo("x")[:-3], "shop.mo", Fault.MO_BOUNDS)):
+            shown, other = self.path("fr", "shop.mo" if name == "shop.po" else "shop.po"), self.path("fr", name)
+            self.put(shown, mo("f1") if name == "shop.po" else po("f1"))
+            self.put(other, data)
+            os.utime(other, (1, 1))
+            with self.watch(every=30) as watch:
+                shown.unlink()
+                self.refused.clear()
+                self.assertEqual([watch.look() for _ in range(3)], [None] * 3)
+                self.assertEqual([(it.path, it.fault) for it in self.refused], [(other, fault)])
+                self.put(other, mo("f2") if name == "shop.mo" else po("f2"))
+                watch.look()
+                self.assertEqual((self.text(), len(self.refused)), ("f2", 1))
+            other.unlink()
+
     def test_empty(self) -> None:
         """A file without a message replaces none that has messages, unless that is wanted."""
         header = b'msgid ""\nmsgstr "Language: fr\\n"\n'

@@ -164,7 +164,7 @@ class Watch(Closing):
                 found[path] = stamp
         for path in list(self._shown.values()):
             other = other_of(path)
-            stamp = stamp_of(other) if stamp_of(path) is None else None
+            stamp = stamp_of(other) if path in self._seen and stamp_of(path) is None else None
             if stamp:
                 found[other] = stamp
         return found
@@ -189,6 +189,8 @@ class Watch(Closing):
                 files.append((path, file))
             elif file:
                 self._seen[path] = file
+                if stamp_of(other_of(path)) is None:  # (this one was tried in its place, once)
+                    self._seen.pop(other_of(path), None)
         if not loads:
             return None
         with _forks.held(self.store._changed):  # (so a forked child has both or neither)
