@@ -171,6 +171,24 @@ class WatchTest(unittest.TestCase):
         os.utime(self.path("de"))
         self.until(lambda: self.text("de") == "old")
 
+    def test_older_beside_the_other(self) -> None:
+        """A file that arrives with an older time, as by `rsync -a`, isn't shown, as for a watch that starts then."""
+        watches = [self.watch(every=30)]
+        for number, (name, other) in enumerate((("shop.mo", "shop.po"), ("shop.po", "shop.mo")), 1):
+            self.put(self.path("fr", name), mo(f"f{number}") if name == "shop.mo" else po(f"f{number}"))
+            watches[0].look()
+            self.put(self.path("fr", other), po("old") if name == "shop.mo" else mo("old"))
+            os.utime(self.path("fr", other), (number, number))
+            self.assertEqual((watches[0].look(), self.text()), (None, f"f{number}"))
+            watches.append(self.watch(every=30))
+            self.assertEqual(self.text(), f"f{number}")
+            os.utime(self.path("fr", other))
+            self.assertIsNotNone(watches[0].look())
+            self.assertEqual(self.text(), "old")
+            self.path("fr", other).unlink()
+            watches[0].look()
+            self.assertEqual((self.text(), self.refused), (f"f{number}", []))
+
     def test_removed_beside_the_other(self) -> None:
         """When the file that is shown is removed, the one in the other format is shown."""
         self.put(self.path("fr", "shop.mo"), mo("mo"))

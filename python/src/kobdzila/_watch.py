@@ -182,7 +182,7 @@ class Watch(Closing):
         """Load these files, the one that was modified last at the end, and publish them."""
         loads: list[tuple[str, str, Catalogue]] = []
         files: list[tuple[str, File]] = []
-        for path, stamp in sorted(changed.items(), key=lambda it: (it[1].modified, it[0].endswith(".mo"))):
+        for path, stamp in sorted(changed.items(), key=lambda it: place_of(*it)):
             catalogue, file = self._opened(path, stamp)
             if file and catalogue:
                 loads.append((*names_of_path(path), catalogue))
@@ -215,6 +215,8 @@ class Watch(Closing):
 
         A file that has changed again meanwhile is neither, and is checked next time.
         """
+        if self._is_older(path, stamp):
+            return None, File(stamp, b"")
         try:
             data = Path(path).read_bytes()
         except OSError as fault:
@@ -242,6 +244,12 @@ class Watch(Closing):
     def _refuse(self, path: str, refused: Refused) -> None:
         self._call(FileRefused(Path(path), refused.line, refused.fault, refused.text))
 
+    def _is_older(self, path: str, stamp: Stamp) -> bool:
+        """Return whether the file in the other format is shown, and was modified after this one."""
+        other = other_of(path)
+        found = stamp_of(other) if self._shown.get(names_of_path(path)) == other else None
+        return found is not None and place_of(other, found) > place_of(path, stamp)
+
     def _call(self, file: FileRefused) -> None:
         try:
             self._report(file)
@@ -252,6 +260,11 @@ class Watch(Closing):
 def other_of(path: str) -> str:
     """Return the path of the file in the other format."""
     return path[:-3] + (".po" if path.endswith(".mo") else ".mo")
+
+
+def place_of(path: str, stamp: Stamp) -> tuple[int, bool]:
+    """Return the place of a file in the order of loads, in which the last one counts."""
+    return stamp.modified, path.endswith(".mo")
 
 
 def names_of_path(path: str) -> tuple[str, str]:
