@@ -334,6 +334,7 @@ class WatchTest(unittest.TestCase):
         time.sleep(0.2)
         self.assertEqual((self.text(), [it for it in threading.enumerate() if "kobdzila" in it.name]), ("f1", []))
         watch.stop()
+        self.assertEqual((watch.look(), self.text()), (2, "f2"))
 
     def test_stop_from_callback(self) -> None:
         stopped = threading.Event()

@@ -114,7 +114,7 @@ class Watch(Closing):
             return self._load(changed) if changed else None
 
     def stop(self) -> None:
-        """Stop the thread, and wait until it has ended. The store keeps what was loaded."""
+        """Stop the thread, and wait until it has ended. The store keeps what was loaded. `look` still looks."""
         self._end.set()
         if threading.current_thread() is not self._thread:
             self._thread.join()
@@ -148,13 +148,20 @@ class Watch(Closing):
         """Return the files that have changed, once they are complete, so that all of them are one publish."""
         before = self._changed()
         end = time.monotonic() + PATIENCE
-        while before and not self._end.wait(self._settle):
+        while before and not self._is_ended_meanwhile():
             after = self._changed()
             steady = {path: stamp for path, stamp in after.items() if before.get(path) == stamp}
             if len(steady) == len(after) or time.monotonic() > end:
                 return steady
             before = after
         return {}
+
+    def _is_ended_meanwhile(self) -> bool:
+        """Wait until the files may be checked again. Return whether this is the watch's thread, which was stopped."""
+        if threading.current_thread() is getattr(self, "_thread", None):
+            return self._end.wait(self._settle)
+        time.sleep(self._settle)
+        return False
 
     def _changed(self) -> dict[str, Stamp]:
         found = {}
