@@ -25,6 +25,20 @@ watch = store.watch(sys.argv[1], every=0.01)
 print(store.version, flush=True)
 """
 
+SIGNALS = """
+import os, signal, sys, threading, time, kobdzila
+from pathlib import Path
+file, looks = Path(sys.argv[1]), []
+watch = kobdzila.Store("shop").watch(file.parents[2], every=30, settle=0.3)
+signal.signal(signal.SIGHUP, lambda *_: looks.append(watch.look()))
+file.write_bytes(file.read_bytes() + b"# new")
+threading.Timer(0.1, os.kill, [os.getpid(), signal.SIGHUP]).start()
+os.kill(os.getpid(), signal.SIGHUP)
+while len(looks) < 2:
+    time.sleep(0.01)
+print(looks)
+"""
+
 
 def po(text: str) -> bytes:
     return f'msgid "a"\nmsgstr "{text}"\n'.encode()
@@ -135,7 +149,7 @@ class WatchTest(unittest.TestCase):
         self.watch()
         self.put(self.path("fr"), b'msgid "a"\n\nmsgstr "f\\y"\n')
         self.put(self.path("de"), po("d2"))
-        self.until(lambda: self.text("de") == "d2")
+        self.until(lambda: self.text("de") == "d2" and self.refused)  # (it is reported once the other is shown)
         self.assertEqual(self.text("fr"), "f1")
         self.assertEqual(self.refused, [(self.path("fr"), 3, Fault.PO_BAD_ESCAPE, "bad escape")])
         self.assertEqual(str(self.refused[0]), f"{self.path('fr')}:3: bad escape")
@@ -346,6 +360,33 @@ class WatchTest(unittest.TestCase):
         watch = self.store.watch(self.folder, refused=stop, every=0.01, settle=0.01)
         self.put(self.path("fr"), b"message")
         self.assertTrue(stopped.wait(30))
+
+    def test_callback_of_a_look(self) -> None:
+        """In any thread a callback may look again, or stop the watch, whose own thread waits for its turn to look."""
+        for every in (30, 0.001):
+            ended: list[object] = []
+            watch = self.store.watch(self.folder, refused=lambda _: ended.append(work()), every=every, settle=0.01)
+
+            def stop() -> None:
+                time.sleep(0.1)
+                watch.stop()
+
+            work: Callable[[], object] = watch.look if every == 30 else stop
+            self.put(self.path("fr"), b"message %f" % every)
+            thread = threading.Thread(target=watch.look, daemon=True)
+            thread.start()
+            thread.join(30)
+            self.assertFalse(thread.is_alive(), "the callback waits forever")
+            self.until(lambda: ended)
+            watch.stop()
+            self.path("fr").unlink()
+
+    def test_look_of_a_signal_handler(self) -> None:
+        """The handler of a signal that comes twice looks within its own look."""
+        self.put(self.path("fr"), po("f"))
+        done = subprocess.run([sys.executable, "-W", "error", "-c", SIGNALS, str(self.path("fr"))], timeout=60,
+                              capture_output=True, text=True, check=False)
+        self.assertEqual((done.returncode, done.stdout, done.stderr), (0, "[2, None]\n", ""))
 
     def test_end_of_process(self) -> None:
         self.put(self.path("fr"), po("f"))

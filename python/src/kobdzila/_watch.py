@@ -97,7 +97,7 @@ class Watch(Closing):
         self._seen: dict[str, File] = {}  # what was loaded or refused, by path
         self._shown: dict[tuple[str, str], str] = {}  # the file that was loaded last, by domain and locale
         self._filled: set[tuple[str, str]] = set()  # those domains and locales that have messages
-        self._looking, self._end = threading.Lock(), threading.Event()
+        self._looking, self._end = threading.RLock(), threading.Event()
         os.listdir(self.folder)  # (raises an exception if there is no such folder)
         self.look()
         self._start()
@@ -107,11 +107,16 @@ class Watch(Closing):
     def look(self) -> int | None:
         """Check now. Return the version that was published, or None if nothing has changed.
 
-        Any thread may call it, and waits for the result.
+        Any thread may call it, and waits for the result. So may a signal handler, also one that interrupts a look.
         """
-        with self._looking:
-            changed = self._steady()
-            return self._load(changed) if changed else None
+        refusals: list[FileRefused] = []
+        try:
+            with self._looking:
+                changed = self._steady()
+                return self._load(changed, refusals) if changed else None
+        finally:
+            for file in refusals:  # (now that the next look may begin, which a callback may make or wait for)
+                self._call(file)
 
     def stop(self) -> None:
         """Stop the thread, and wait until it has ended. The store keeps what was loaded. `look` still looks."""
@@ -130,7 +135,7 @@ class Watch(Closing):
         return ()  # (a look may take long; what it shows and what it has seen change under the store's lock)
 
     def _forked(self) -> None:
-        self._looking, was_stopped, self._end = threading.Lock(), self._end.is_set(), threading.Event()
+        self._looking, was_stopped, self._end = threading.RLock(), self._end.is_set(), threading.Event()
         if was_stopped:
             self._end.set()
         elif threading.current_thread() is not self._thread:
@@ -185,12 +190,13 @@ class Watch(Closing):
                     if self._domains is None or domain in self._domains:
                         yield os.path.join(folder, name)
 
-    def _load(self, changed: dict[str, Stamp]) -> int | None:
-        """Load these files, the one that was modified last at the end, and publish them."""
+    def _load(self, changed: dict[str, Stamp], refusals: list[FileRefused]) -> int | None:
+        """Load these files, the one that was modified last at the end, and publish them. Add what is refused to
+        `refusals`."""
         loads: list[tuple[str, str, Catalogue]] = []
         files: list[tuple[str, File]] = []
         for path, stamp in sorted(changed.items(), key=lambda it: place_of(*it)):
-            catalogue, file = self._opened(path, stamp)
+            catalogue, file = self._opened(path, stamp, refusals)
             if file and catalogue:
                 loads.append((*names_of_path(path), catalogue))
                 files.append((path, file))
@@ -201,11 +207,10 @@ class Watch(Closing):
         if not loads:
             return None
         with _forks.held(self.store._changed):  # (so a forked child has both or neither)
-            version, refusals = self.store._publish_all(loads)
-            self._note(loads, files, refusals)
-        for number, refusal in refusals.items():
-            self._refuse(files[number][0], refusal)
-        return version if len(refusals) < len(loads) else None
+            version, refused = self.store._publish_all(loads)
+            self._note(loads, files, refused)
+        refusals += (refusal_of(files[number][0], it) for number, it in refused.items())
+        return version if len(refused) < len(loads) else None
 
     def _note(
         self, loads: list[tuple[str, str, Catalogue]], files: list[tuple[str, File]], refusals: Container[int]
@@ -217,7 +222,9 @@ class Watch(Closing):
                 self._shown[domain, locale] = path
                 (self._filled.add if has_messages(catalogue) else self._filled.discard)((domain, locale))
 
-    def _opened(self, path: str, stamp: Stamp) -> tuple[Catalogue | None, File | None]:
+    def _opened(
+        self, path: str, stamp: Stamp, refusals: list[FileRefused]
+    ) -> tuple[Catalogue | None, File | None]:
         """Return the file's catalogue, unless it is refused or unchanged, and what was read.
 
         A file that has changed again meanwhile is neither, and is checked next time.
@@ -227,7 +234,7 @@ class Watch(Closing):
         try:
             data = Path(path).read_bytes()
         except OSError as fault:
-            self._call(FileRefused(Path(path), 0, None, fault.strerror or str(fault)))
+            refusals.append(FileRefused(Path(path), 0, None, fault.strerror or str(fault)))
             return None, File(stamp, b"")
         if stamp_of(path) != stamp:
             return None, None
@@ -237,19 +244,16 @@ class Watch(Closing):
         try:
             made = Catalogue.from_mo(data) if path.endswith(".mo") else Catalogue.from_po(data, *self._options)
         except Refused as refused:
-            self._refuse(path, refused)
+            refusals.append(refusal_of(path, refused))
             return None, file
         if not self._allow_empty and names_of_path(path) in self._filled and not has_messages(made):
-            self._call(FileRefused(Path(path), 0, None, EMPTY))
+            refusals.append(FileRefused(Path(path), 0, None, EMPTY))
             return None, file
         return made, file
 
     def _is_shown(self, path: str, file: File) -> bool:
         """Return whether the file has the bytes that it had, and no file of the other format was loaded after it."""
         return path in self._seen and self._seen[path].digest == file.digest and other_of(path) not in self._seen
-
-    def _refuse(self, path: str, refused: Refused) -> None:
-        self._call(FileRefused(Path(path), refused.line, refused.fault, refused.text))
 
     def _is_older(self, path: str, stamp: Stamp) -> bool:
         """Return whether the file in the other format is shown, and was modified after this one."""
@@ -262,6 +266,10 @@ class Watch(Closing):
             self._report(file)
         except Exception:
             LOG.exception("the callback for %s failed", file)
+
+
+def refusal_of(path: str, refused: Refused) -> FileRefused:
+    return FileRefused(Path(path), refused.line, refused.fault, refused.text)
 
 
 def other_of(path: str) -> str:
