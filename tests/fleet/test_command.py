@@ -139,7 +139,8 @@ class CommandTest(unittest.TestCase):
                              (64, f"kob-fleet: not of the form DOMAIN/LOCALE=FILE: {word}\n"))
         for words, said in ((["wait", "x"], "not a version: 'x'"),
                             (["remove", "app"], "not of the form DOMAIN/LOCALE: app"),
-                            (["metrics", "--listen", "host:x"], "not of the form [HOST:]PORT: host:x")):
+                            (["metrics", "--listen", "host:x"], "not of the form [HOST:]PORT: host:x"),
+                            (["metrics", "--listen", "65536"], "not of the form [HOST:]PORT: 65536")):
             self.assertEqual(self.run_program(*words), (64, "", f"kob-fleet: {said}\n"))
 
     def test_a_server_that_is_not_there(self) -> None:

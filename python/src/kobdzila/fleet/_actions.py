@@ -227,7 +227,7 @@ def print_metrics(options: argparse.Namespace) -> int:
             sys.stdout.write(metrics(log.status()))
             return 0
         host, _, port = options.listen.rpartition(":")
-        if not port.isdecimal():
+        if not port.isdecimal() or int(port) > 65535:
             raise Misused(f"not of the form [HOST:]PORT: {options.listen}")
         host = host.strip("[]") or "127.0.0.1"
         with served((host, int(port)), lambda: metrics(log.status())) as server:
