@@ -60,6 +60,19 @@ class LogTest(LogCase):
                 log.publish(loads(1), note=note, within=3)
         self.assertEqual((troubles, self.log.status().version), ([], 0))
 
+    def test_the_name_of_the_program(self) -> None:
+        """The connection string or the environment may give another one, as to any program of libpq."""
+        here, own = {"PGAPPNAME": "here"}, f"{self.address} application_name=own"
+        for name, variables, address in (("kob-fleet", {}, self.address), ("here", here, self.address), ("own", here, own)):
+            with mock.patch.dict(os.environ, variables), Log(address) as log:
+                self.assertEqual(log._once(lambda it: it.execute("show application_name").fetchone()), (name,))
+
+    def test_no_timeout(self) -> None:
+        """A timeout that is zero or negative is none, as for libpq."""
+        for seconds in ("0", "-1"):
+            with Log(f"{self.address} connect_timeout={seconds}") as log:
+                self.assertEqual(log.status().version, 0)
+
     @unittest.skipUnless(has_catsession(), NO_SESSION)
     def test_names_are_those_of_a_session(self) -> None:
         with kobdzila.Session() as session:

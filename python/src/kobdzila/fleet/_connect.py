@@ -32,7 +32,7 @@ PLACES = ("host", "hostaddr", "port")
 # What libpq can look for itself, among the hosts of a service
 FOUND_BY_LIBPQ = ("any", "read-write", *(("primary", "standby", "read-only") if pq.version() >= 140000 else ()))
 USUAL = {"keepalives_idle": "10", "keepalives_interval": "3", "keepalives_count": "3", "tcp_user_timeout": "10000",
-         "application_name": "kob-fleet"}
+         "fallback_application_name": "kob-fleet"}
 SSL_REQUEST = struct.pack("!II", 8, 80877103)  # which every server answers by one byte
 # What a session is: whether the server is a standby and takes writes, and the process that serves it
 SESSION = "select pg_is_in_recovery(), current_setting('transaction_read_only')::bool, pg_backend_pid()"
@@ -138,7 +138,8 @@ def connect(
     """
     given = parameters(database)
     wanted = given.pop("target_session_attrs", attributes)
-    within = patience * float(given.pop("connect_timeout", CONNECT_TIMEOUT)) or math.inf
+    seconds = float(given.pop("connect_timeout", CONNECT_TIMEOUT))
+    within = patience * seconds if seconds > 0 else math.inf
     failures: list[str] = []
     for it in ("standby", "any") if wanted == "prefer-standby" else (wanted,):
         for server in servers_of(given, wake, end, within, failures):
