@@ -2,6 +2,7 @@
 from __future__ import annotations
 
 import contextlib
+import errno
 import io
 import json
 import os
@@ -443,6 +444,21 @@ class ProgramTest(CommandCase):
             _daemon.answer_client(ours, threading.Semaphore(), follower, session, False)
         self.assertEqual(said.getvalue(),
                          "kob-fleet: a program closed its end of the socket before it had its answers\n")
+
+    def test_a_lack_of_descriptors(self) -> None:
+        """The daemon says so, and accepts programs again when there are some."""
+        ours, theirs = socket.socketpair()
+        theirs.settimeout(100)
+        theirs.sendall(b"go\n")
+        listener, said = mock.Mock(), io.StringIO()
+        listener.accept.side_effect = [OSError(errno.EMFILE, "Too many open files"), (ours, ""), OSError]
+        listener.fileno.side_effect = [3, -1]
+        with (theirs, mock.patch.object(_daemon, "answered", return_value=b"version\t1\n"),
+              contextlib.redirect_stderr(said)):
+            _daemon.accept(listener, mock.Mock(), mock.Mock(), False)
+            self.assertEqual(theirs.recv(100), b"version\t1\n")
+        self.assertEqual(said.getvalue(),
+                         "kob-fleet: a program can't be answered yet: [Errno 24] Too many open files\n")
 
     def test_a_socket_of_another_process_stays(self) -> None:
         with tempfile.TemporaryDirectory() as room:

@@ -8,6 +8,7 @@ import signal
 import socket
 import sys
 import threading
+import time
 from collections.abc import Iterator
 from pathlib import Path
 from typing import BinaryIO
@@ -21,6 +22,7 @@ MOST_LINES = 67_108_864
 MOST_CLIENTS = 64  # of a socket, at once
 LISTEN_FDS_START = 3  # the first socket that systemd hands over (sd_listen_fds)
 TOLD_EACH = 5.0  # seconds between two notes to systemd
+ACCEPT_EACH = 1.0  # seconds between two attempts to accept a program, as where no descriptor is left
 
 
 class Trouble(Exception):
@@ -131,8 +133,13 @@ def accept(listener: socket.socket, follower: Follower, session: Session, with_t
         room.acquire()
         try:
             client, _ = listener.accept()
-        except OSError:  # (it was closed)
-            return
+        except OSError as why:
+            if listener.fileno() < 0:  # (it was closed)
+                return
+            room.release()
+            say(f"a program can't be answered yet: {why}")
+            time.sleep(ACCEPT_EACH)
+            continue
         threading.Thread(target=answer_client, args=[client, room, follower, session, with_tokens], daemon=True).start()
 
 
