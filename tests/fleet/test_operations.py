@@ -112,6 +112,13 @@ class StatusTest(CommandCase):
         follower.close()
         self.assertEqual(self.log.status().machines, [])
 
+    def test_the_end_of_a_process_says_goodbye(self) -> None:
+        program = ("import sys, kobdzila; from kobdzila.fleet import Follower, Log; log = Log(sys.argv[1])\n"
+                   "follower = Follower(kobdzila.Store('app'), sys.argv[1], 'web1')\nfollower.start()\n"
+                   "while not log.status().machines: pass\nlog.close()")
+        subprocess.run([sys.executable, "-c", program, self.address], check=True, timeout=100)
+        self.assertEqual(self.log.status().machines, [])
+
     def test_what_a_dead_process_left(self) -> None:
         """The next follower of the name on this host deletes it. A row of another host stays."""
         host = socket.gethostname()

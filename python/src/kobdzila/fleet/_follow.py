@@ -1,6 +1,7 @@
 """A machine that follows the log: a thread that plays each publish into a store."""
 from __future__ import annotations
 
+import atexit
 import contextlib
 import logging
 import os
@@ -148,14 +149,16 @@ class Follower(Closing):
                          is_alive=self._thread.is_alive() and not self._ending)
 
     def start(self) -> None:
-        """Start following. In a forked child the follower restarts by itself."""
+        """Start following. In a forked child the follower restarts by itself. The end of the process closes it."""
         self._has_started = True
         self._thread.start()
+        atexit.register(self.close)
 
     def close(self) -> None:
         """Stop following, within a second. The store keeps what it has."""
         self._ending = True
         FOLLOWERS.discard(self)
+        atexit.unregister(self.close)
         if self._woken >= 0:
             os.write(self._waker, b"x")
         if self._thread.ident is not None:
