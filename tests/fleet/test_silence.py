@@ -468,6 +468,15 @@ class ThreadTest(LogCase):
                 self.assertEqual(follower.wait_for(version, 100), 4)
                 self.assertTrue(follower.health().is_alive)
 
+    def test_closed_by_a_callback(self) -> None:
+        follower = Follower(Catalogues(), self.address, "m", on_version=lambda version: follower.close())
+        with self.assertNoLogs("kobdzila"):
+            follower.start()
+            until(lambda: not follower._thread.is_alive())
+        self.assertEqual((follower.health().is_alive, self.log.status().machines), (False, []))
+        follower.close()
+        self.assertEqual(follower._woken, -1)
+
     def test_what_nobody_foresaw(self) -> None:
         follower = self.follower(look_each=0.1)
         self.log.publish(loads(1))

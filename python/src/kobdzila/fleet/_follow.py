@@ -161,7 +161,7 @@ class Follower(Closing):
         atexit.unregister(self.close)
         if self._woken >= 0:
             os.write(self._waker, b"x")
-        if self._thread.ident is not None:
+        if self._thread.ident not in (None, threading.get_ident()):  # (the latter in a callback)
             self._thread.join(CLOSE_WITHIN)
         if not self._thread.is_alive() and self._woken >= 0:
             os.close(self._woken)
