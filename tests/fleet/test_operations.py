@@ -294,6 +294,17 @@ class RolesTest(CommandCase):
             self.row("m", "h:1:x")
             self.assertEqual(log.forget("m"), 1)
 
+    def test_a_schema_that_was_made_for_its_owner(self) -> None:
+        """He needs no right to create others in the database."""
+        self.sql("do $$ begin create role schema_owner login; exception when duplicate_object then null; end $$")
+        self.sql("drop schema kobdzila cascade")
+        self.sql("create schema kobdzila authorization schema_owner")
+        owner = self.address.replace("user=postgres", "user=schema_owner")
+        for _ in range(2):
+            self.assertEqual(self.command("init", database=owner), (0, "version 0\n", ""))
+        with Log(owner) as log:
+            self.assertEqual(log.publish(loads(1)), 2)
+
     def test_the_role_that_is_needed_is_named(self) -> None:
         self.command("init", "--roles")
         self.address = self.role("kobdzila_follower")

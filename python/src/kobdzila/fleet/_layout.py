@@ -42,7 +42,6 @@ create table kobdzila.epoch (
 );
 """
 TABLES = f"""
-create schema if not exists kobdzila;
 create table kobdzila.log (
   one boolean primary key default true check (one),
   layout integer not null,
@@ -124,6 +123,9 @@ def create(connection: Connection, upgrade: bool) -> None:
         connection.execute("select pg_advisory_xact_lock(hashtext('kobdzila'))")
         found = layout_of(connection)
         if found is None:
+            # (`if not exists` needs the right to create schemas even if this one is there)
+            if connection.execute("select to_regnamespace('kobdzila') is null").fetchone() == (True,):
+                connection.execute("create schema kobdzila")
             connection.execute((TABLES % {"epoch": new_epoch()}).encode())
         elif found in UPGRADES and upgrade:
             connection.execute((UPGRADES[found] % {"epoch": new_epoch()}).encode())
