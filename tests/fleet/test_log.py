@@ -3,6 +3,7 @@ from __future__ import annotations
 
 import hashlib
 import os
+import pickle
 import threading
 import unittest
 import uuid
@@ -13,7 +14,21 @@ import psycopg
 
 import kobdzila
 from cases import LogCase
-from kobdzila.fleet import Behind, Difference, Follower, Log, NoLog, StoreFailed, _log
+from kobdzila.fleet import (
+    Behind,
+    CacheRefused,
+    Damaged,
+    Difference,
+    Follower,
+    Log,
+    NoLog,
+    RestoreUnanswered,
+    Restored,
+    StoreFailed,
+    Unanswered,
+    Version,
+    _log,
+)
 from stores import NO_SESSION, PAIRS, Catalogues, Readers, has_catsession, loads, mo, until
 
 
@@ -438,6 +453,18 @@ class LogTest(LogCase):
         """What the followers and publishers did last, and when."""
         return self.sql("select pid, state, state_change from pg_stat_activity where application_name = 'kob-fleet'"
                         " order by pid")
+
+
+class ExceptionsTest(unittest.TestCase):
+    def test_pickled(self) -> None:
+        """Each exception can go from the process that raised it to the one that waits for its result."""
+        here, there = Version(1, "0" * 16), Version(2, "0" * 16)
+        for raised in (Restored(), NoLog("a"), Difference(1, 2, "a", True), Damaged("a"), StoreFailed("a"),
+                       CacheRefused("a"), Behind(here, there, "a"), Unanswered(uuid.uuid4(), "a"),
+                       RestoreUnanswered("0" * 16, "a"), kobdzila.Refused(101, 2, "a"), kobdzila.SessionEnded("a"),
+                       kobdzila.LoadRefused(1, [kobdzila.Refusal("app", "fr", 101, 2)])):
+            got = pickle.loads(pickle.dumps(raised))
+            self.assertEqual((type(got), str(got), vars(got)), (type(raised), str(raised), vars(raised)))
 
 
 if __name__ == "__main__":

@@ -113,8 +113,8 @@ class NoLog(Exception):
 class Restored(NoLog):
     """The log was restored or copied. Nothing is published before `restore` has begun a new epoch."""
 
-    def __init__(self) -> None:
-        super().__init__(RESTORED)
+    def __init__(self, why: str = RESTORED) -> None:
+        super().__init__(why)
 
 
 def create(connection: Connection, upgrade: bool) -> None:
