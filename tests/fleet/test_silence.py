@@ -524,6 +524,21 @@ class ThreadTest(LogCase):
         self.assertEqual(follower.wait_for(self.log.publish(loads(3)), 100), 6)
         self.assertIsNone(follower.trouble)
 
+    def test_children_that_end(self) -> None:
+        """A child deletes what those before it left: the workers of a server end, and others are forked in their place."""
+        follower = self.follower(machine="parent")
+        until(lambda: self.log.status().machines)
+        for _ in range(2):
+            child = os.fork()
+            if child == 0:
+                try:
+                    until(lambda: follower._reporter.process in [it.process for it in self.log.status().machines])
+                finally:
+                    os._exit(0)
+            os.waitpid(child, 0)
+        found = {int(it.process.split(":")[1]) for it in self.log.status().machines}
+        self.assertEqual(found, {os.getpid(), child})
+
     def test_attempts_become_rare(self) -> None:
         """Without a log, and for a role that may read nothing, a follower doesn't connect ten times a second."""
         self.sql("do $$ begin create role nobody2 login; exception when duplicate_object then null; end $$")

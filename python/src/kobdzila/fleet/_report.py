@@ -123,6 +123,7 @@ class Reporter:
         if self._connection is not None:
             abandon(self._connection)
         self._connection, self._last, self._at, self.process = None, None, 0.0, process_name()
+        self._has_cleaned = False  # (other children may have ended since the parent looked)
 
 
 @contextlib.contextmanager
