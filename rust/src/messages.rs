@@ -3,6 +3,7 @@
 use std::collections::hash_map::DefaultHasher;
 use std::fmt::{self, Display, Write};
 use std::hash::{Hash, Hasher};
+use std::io::{self, Write as _};
 use std::sync::{Arc, Mutex, RwLock};
 
 use crate::lookup::Lookup;
@@ -427,7 +428,8 @@ fn report(message: &str, translation: &str) {
     let report = *REPORT.read().unwrap_or_else(|it| it.into_inner());
     match report {
         Some(report) => report(&mismatch),
-        None => eprintln!("{mismatch}"),
+        // (`eprintln!` panics if nobody reads standard error any more)
+        None => drop(writeln!(io::stderr(), "{mismatch}")),
     }
 }
 

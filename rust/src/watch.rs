@@ -162,7 +162,7 @@ impl WatchOptions {
             settle: Duration::from_millis(100),
             every: Duration::from_secs(10),
             accepts_empty: false,
-            refused: Box::new(|file| eprintln!("{file}")),
+            refused: Box::new(|file| drop(writeln!(io::stderr(), "{file}"))),
         }
     }
 

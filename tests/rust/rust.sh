@@ -411,6 +411,16 @@ else
   failed "$name" "it said '$said'; $(why)"
 fi
 
+# (it is reported that a translation isn't used, but nobody reads standard error any more)
+name='the guide for Rust, a report that nobody reads'
+sed -i 's/Bonjour, {name}/Bonjour, {nom}/' "$room/greeter/fr.po"
+bin/msgfmt -o "$room/greeter/locale/fr/LC_MESSAGES/greeter.mo" "$room/greeter/fr.po"
+exec 9> >(:)
+wait $!
+said=$(LC_ALL=fr_CA.UTF-8 "$room/target/debug/examples/greeter" "$room/greeter/locale" Ada 3 2>&9)
+exec 9>&-
+if [ "$said" = $'Hello, Ada!\nIl y a 3 massifs à arroser.' ]; then ok "$name"; else failed "$name" "it said '$said'"; fi
+
 # --- the library is found, or the build says what to do -----------------------------------------------------------
 
 crate=$room/rust
