@@ -376,12 +376,13 @@ struct Stamp {
     number: u64,
 }
 
-/// A file that was looked at. One that couldn't be read has no hash.
+/// A file that was looked at. One that couldn't be read has no hash, and one that was refused isn't loaded.
 #[derive(Clone, Copy, Debug)]
 struct Seen {
     stamp: Stamp,
     hash: Option<u64>,
     has_messages: bool,
+    is_loaded: bool,
 }
 
 /// What the thread and `look` share.
@@ -573,9 +574,22 @@ impl Looking {
         });
         let mut is_loaded = false;
         for (path, stamp) in files {
-            is_loaded |= self.load_file(path, stamp);
+            if self.load_file(path.clone(), stamp) {
+                is_loaded = true;
+                if let Some((later, its)) = self.later(&path, stamp) {
+                    self.load_file(later, its);
+                }
+            }
         }
         is_loaded
+    }
+
+    /// The file of the other format, if it is loaded and was modified after this one: the one to show.
+    fn later(&self, path: &Path, stamp: Stamp) -> Option<(PathBuf, Stamp)> {
+        let other = other_format(path);
+        let its = self.seen.get(&other).filter(|it| it.is_loaded)?.stamp;
+        let is_later = (its.modified, is_mo(&other)) > (stamp.modified, is_mo(path));
+        (is_later && stamp_of(&other) == Some(its)).then_some((other, its))
     }
 
     /// Loads a file. One that has changed once more is looked at next time.
@@ -587,6 +601,7 @@ impl Looking {
                     stamp,
                     hash: None,
                     has_messages: false,
+                    is_loaded: false,
                 };
                 return self.refuse(path, seen, Some(Refusal::unreadable(why).into()));
             }
@@ -600,8 +615,10 @@ impl Looking {
             stamp,
             hash: Some(hasher.finish()),
             has_messages: self.has_messages(&path),
+            is_loaded: false,
         };
         if self.is_shown(&path, &seen) {
+            seen.is_loaded = self.seen.get(&path).map_or(false, |it| it.is_loaded);
             self.seen.insert(path, seen);
             return false;
         }
@@ -617,6 +634,7 @@ impl Looking {
             return self.refuse(path, seen, Some(why));
         }
         seen.has_messages = has_messages;
+        seen.is_loaded = true;
         self.seen.insert(path, seen);
         true
     }

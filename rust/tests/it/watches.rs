@@ -251,6 +251,26 @@ fn of_an_mo_file_and_a_po_file_the_later_one_is_shown() {
 }
 
 #[test]
+fn a_file_that_comes_with_an_earlier_time_is_not_the_later_one() {
+    let garden = Garden::new("earlier");
+    for name in ["old", "older"] {
+        garden.write(name, winter(name));
+    }
+    thread::sleep(Duration::from_millis(20));
+    garden.write(MO, compiled(&winter("mo")).mo_file());
+    let watch = garden.watch();
+    // (as `rsync -a` and `mv` bring a file)
+    fs::rename(garden.path("old"), garden.path(PO)).unwrap();
+    watch.look();
+    assert_eq!(garden.winter("fr"), "mo");
+    garden.write(PO, winter("po"));
+    comes("po", || garden.winter("fr") == "po");
+    fs::rename(garden.path("older"), garden.path(PO)).unwrap();
+    watch.look();
+    assert_eq!(garden.winter("fr"), "mo");
+}
+
+#[test]
 fn the_same_bytes_are_no_change() {
     let garden = Garden::new("same");
     garden.write(PO, winter("one"));
