@@ -311,6 +311,11 @@ fi
 # (without a build: the new project below is one)
 does 'the Rust crates, cargo package' cargo package --workspace --allow-dirty --no-verify
 
+name='the Rust crates, each link of their pages leads somewhere'
+mkdir "$room/links"
+for it in "$room/target/package"/*.crate; do tar -xzf "$it" -C "$room/links"; done
+if said=$(tools/linked_pages --check "$room/links" 2>&1); then ok "$name"; else failed "$name" "$said"; fi
+
 # as_guide FOLDER CARGO..: makes the new project of the guide in this folder, with this cargo
 as_guide() {
   local folder=$1
