@@ -191,7 +191,9 @@ install_completions:
 	$(completions) fish $(NAME) '$(PROGRAM_PREFIX)' > "$(to)$(fishdir)/$(AS).fish"
 	chmod 644 "$(to)$(bashdir)/$(AS)" "$(to)$(ZSHDIR)/_$(AS)" "$(to)$(fishdir)/$(AS).fish"
 
-# (pkg-config reads a blank in a path with a backslash before it)
+# (pkg-config reads a blank in a path with a backslash before it; sed puts in what put_in makes of a text)
+put_in = $(subst |,\|,$(subst &,\&,$(subst \,\\,$(1))))
+below_prefix = $(subst @AT@,,$(subst @AT@$(PREFIX)/,$${prefix}/,@AT@$(LIBDIR)))
 install_library:
 	install -d "$(to)$(LIBDIR)/pkgconfig" "$(to)$(preloaddir)" "$(to)$(includedir)" "$(to)$(mandir)/man3"
 	install -m 644 $(BUILD)/lib/libkobdzila.a "$(to)$(LIBDIR)/libkobdzila.a"
@@ -201,7 +203,7 @@ install_library:
 	install -m 755 $(BUILD)/lib/$(PRELOADED) "$(to)$(preloaddir)/$(PRELOADED)"
 	$(strip) --strip-unneeded "$(to)$(LIBDIR)/$(SHARED)" "$(to)$(preloaddir)/$(PRELOADED)"
 	install -m 644 include/kobdzila.h "$(to)$(includedir)/kobdzila.h"
-	sed -e 's|@PREFIX@|$(PREFIX)|' -e 's|@LIBDIR@|$(LIBDIR)|' -e 's|^libdir=$(PREFIX)/|libdir=$${prefix}/|' \
+	sed -e 's|@PREFIX@|$(call put_in,$(PREFIX))|' -e 's|@LIBDIR@|$(call put_in,$(below_prefix))|' \
 	  -e 's|@VERSION@|$(version)|' -e '/^[a-z]*=/s/ /\\ /g' \
 	  c/library/kobdzila.pc.in > "$(to)$(LIBDIR)/pkgconfig/kobdzila.pc"
 	chmod 644 "$(to)$(LIBDIR)/pkgconfig/kobdzila.pc"

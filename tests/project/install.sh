@@ -209,19 +209,21 @@ if tests/lib/needs make make; then
       if [ -z "$left" ]; then ok "install, $it: nothing is left by uninstall"
       else failed "install, $it: nothing is left by uninstall" "$left"; fi
     done
-    # a prefix with blanks is one word for whoever asks pkg-config
-    name='install, a prefix with blanks'
-    if ! tests/lib/needs pkg-config pkgconf; then
-      skipped "$name" 'no pkg-config'
-    elif make -s install_library PREFIX="$room/a folder" DESTDIR= > "$room/log" 2>&1 &&
-      PKG_CONFIG_PATH="$room/a folder/lib/pkgconfig" pkg-config --cflags --libs kobdzila > "$room/out" 2> "$room/log" &&
-      eval "set -- $(cat "$room/out")" && [ "$1 and $2" = "-I$room/a folder/include and -L$room/a folder/lib" ]; then
-      ok "$name"
-    else
-      failed "$name" "$(cat "$room/log" "$room/out")"
-    fi
+    # a prefix with blanks is one word for whoever asks pkg-config, and other characters are put in as they are
+    for it in 'a folder' 'R&D' 'a|b' 'a[b'; do
+      name="install, a prefix called $it"
+      if ! tests/lib/needs pkg-config pkgconf; then
+        skipped "$name" 'no pkg-config'
+      elif make -s install_library PREFIX="$room/$it" DESTDIR= > "$room/log" 2>&1 &&
+        PKG_CONFIG_PATH="$room/$it/lib/pkgconfig" pkg-config --cflags --libs kobdzila > "$room/out" 2> "$room/log" &&
+        eval "set -- $(cat "$room/out")" && [ "$1 and $2" = "-I$room/$it/include and -L$room/$it/lib" ]; then
+        ok "$name"
+      else
+        failed "$name" "$(cat "$room/log" "$room/out")"
+      fi
+    done
   else
-    skipped 'install, LIBDIR and a prefix with blanks' 'the libraries were not built'
+    skipped 'install, LIBDIR and a prefix of other characters' 'the libraries were not built'
   fi
   if [ -x "$room/image$room/usr/bin/msgfmt" ] && [ -s "$room/image$room/usr/share/doc/kobdzila/reference/msgfmt.md" ]; then
     ok 'install: uninstalling one leaves what the other has alone'
