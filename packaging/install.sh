@@ -47,7 +47,7 @@ $made"
 write() {
   rm -f "$2"
   case $1 in
-    */man/*) tools/installed_page "$prefix" "$as" "${as}kobdzila" "$1" > "$2" ;;
+    */man/*) sh tools/installed_page "$prefix" "$as" "${as}kobdzila" "$1" > "$2" ;;
     */completions/* | */site-functions/* | */vendor_completions.d/*) sed "s|@PREFIX@|$as|g" "$1" > "$2" ;;
     *) cp -P "$1" "$2" ;;
   esac || return

@@ -105,6 +105,14 @@ install
 holds 'a relative folder is one below the current one' all_right
 install remove
 
+# (as in a folder that is mounted noexec, such as /tmp of some machines)
+PREFIX=$room/usr
+chmod -x "$room/tarball/tools/installed_page"
+install
+holds 'unpacked where no program may run' all_right
+install remove
+chmod +x "$room/tarball/tools/installed_page"
+
 # what was there before stays, with its mode
 PREFIX=$room/usr
 mkdir -p "$PREFIX/bin"
