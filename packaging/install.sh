@@ -38,9 +38,11 @@ mode() {
 # folder PATH: makes a folder with those above it, and adds each that it made to $made
 folder() {
   [ ! -d "${1:-/}" ] || return 0
-  folder "${1%/*}" && mkdir "$1" || return
+  folder "${1%/*}" || return
+  # (noted first, since a signal may come as soon as it is made)
   made="$1
 $made"
+  mkdir "$1"
 }
 
 # write FILE NEW: writes a file of the tarball as it is installed
@@ -86,7 +88,8 @@ if [ $# = 1 ]; then
   made=$(cat "$noted" 2> /dev/null || true) status=0
   # (one with other names for the programs)
   others=$(find "$prefix/share/doc" -path '*kobdzila/folders' ! -path "$noted" 2> /dev/null || true)
-  if ! { each drop && rm -f "$noted"; }; then
+  # (once the list of folders is gone, they have to be as well)
+  if ! { each drop && trap '' HUP INT TERM && rm -f "$noted"; }; then
     status=1
     printf '%s\n' "install.sh: not all of it was removed below $prefix" >&2
   fi

@@ -154,6 +154,15 @@ PREFIX=$room/file/usr
 install
 holds 'a folder that cannot be made' is_refused
 PREFIX=$room/usr
+mkdir "$room/interrupting"
+script interrupting/mkdir '/bin/mkdir "$@" && kill -TERM "$PPID"'
+PATH=$room/interrupting:$PATH install
+holds 'interrupted when it has made a folder' is_refused
+holds 'interrupted, and no folder is left' test ! -e "$PREFIX"
+install
+script interrupting/rm '/bin/rm "$@" && case $* in */folders) kill -TERM "$PPID" ;; esac'
+PATH=$room/interrupting:$PATH install remove
+holds 'interrupted when it has removed the list of folders: nothing is left' is_gone
 mkdir "$PREFIX"
 echo file > "$PREFIX/share"
 before=$(listed)
