@@ -77,6 +77,12 @@ drop() {
   rm -f "$2"
 }
 
+# hand_over: lists the folders that were made with those of another installation below PREFIX, which may lie in them
+hand_over() {
+  [ -z "$others" ] || printf '%s\n' "$made" >> "${others%%
+*}"
+}
+
 # empty_folders LIST: removes those that are empty, and says nothing of the others
 empty_folders() {
   printf '%s\n' "$1" | LC_ALL=C sort -r | while read -r it; do
@@ -87,9 +93,9 @@ empty_folders() {
 if [ $# = 1 ]; then
   made=$(cat "$noted" 2> /dev/null || true) status=0
   # (one with other names for the programs)
-  others=$(find "$prefix/share/doc" -path '*kobdzila/folders' ! -path "$noted" 2> /dev/null || true)
+  others=$(find "$prefix/share/doc" -path '*kobdzila/folders' 2> /dev/null | grep -Fxv "$noted" || true)
   # (once the list of folders is gone, they have to be as well)
-  if ! { each drop && trap '' HUP INT TERM && rm -f "$noted"; }; then
+  if ! { each drop && trap '' HUP INT TERM && hand_over && rm -f "$noted"; }; then
     status=1
     printf '%s\n' "install.sh: not all of it was removed below $prefix" >&2
   fi

@@ -89,7 +89,7 @@ for shell in dash bash 'busybox sh'; do
 done
 shell='sh'
 
-for name in 'a|b' 'a b' "it's & more"; do
+for name in 'a|b' 'a b' "it's & more" 'a[b]'; do
   PREFIX=$room/$name/usr
   install
   holds "a folder called $name" all_right
@@ -136,7 +136,12 @@ PROGRAM_PREFIX=kob- install remove
 holds 'one is removed, and the programs of the other stay' test -x "$PREFIX/bin/msgfmt" -a ! -e "$PREFIX/bin/kob-msgfmt"
 holds 'and so do the files of both' test -f "$PREFIX/lib/libkobdzila.a" -a -x "$PREFIX/bin/kob-compile"
 install remove
-holds 'then both are removed' test "$(find "$PREFIX" ! -type d)" = "$PREFIX/bin/mine"
+holds 'then both are removed' test "$(listed)" = "$before"
+install
+PROGRAM_PREFIX=kob- install
+install remove
+PROGRAM_PREFIX=kob- install remove
+holds 'both are removed, first the one that made the folders' test "$(listed)" = "$before"
 rm -r "$PREFIX"
 
 # a program that runs keeps its file
