@@ -23,7 +23,7 @@
 #   make sign KEY=FILE   signs build/dist/SHA256SUMS with an SSH key; KEY=NAME does with a key of gpg's
 #   make wheel      packs the Python package into build/dist, of the library that was built; it needs Python's headers
 #   make html       makes the site of the documents, build/html, with a search, by Sphinx; `make dist` packs it as well
-#   make deb        packs it as three Debian packages, into build/deb
+#   make deb        packs it as four Debian packages, into build/deb
 #   make verify TARBALL=FILE   proves and builds the commit that a tarball names, and compares every byte
 #   make uninstall  removes what `make install` with the same variables has put there
 #   make clean      removes what was built, and what the prover kept (crates/*/out)
