@@ -11,7 +11,7 @@ use Rattle.mo_file.specs.declared.fault.MoFault.TheVariants as mo
 use Rattle.mo_file.specs.declared.read.Unread.{Unread}
 use Rattle.catalogue.specs.Meaning.{Means, Refuses}
 use Rattle.catalogue.specs.declared.compiler.Compiled.{Compiled}
-use Rattle.catalogue.specs.declared.compiler.Stats.{Stats}
+use Rattle.catalogue.specs.declared.Stats.{Stats}
 use Rattle.mo_revisions.specs.declared.fault.AnyMoFault.TheVariants.{Mo as OfMo}
 use Rattle.mo_charsets.specs.declared.fault.RecodedFault.TheVariants.{Any}
 use Rattle.mo_charsets.specs.declared.fault.RecodedFault.{RecodedFault}

@@ -15,7 +15,7 @@ use Rattle.mo_charsets.specs.declared.fault.RecodedFault.{RecodedFault}
 use Rattle.mo_charsets.specs.declared.fault.RecodedFault.TheVariants as recoded
 use Rattle.catalogue.specs.Meaning.{Means, Refuses, rank}
 use Rattle.catalogue.specs.declared.compiler.Compiled.{Compiled}
-use Rattle.catalogue.specs.declared.compiler.Stats.{Stats}
+use Rattle.catalogue.specs.declared.Stats.{Stats}
 use Rattle.any_charset.specs.Recoding.{IsForCharset, MeansAny, RefusesAny}
 use Rattle.any_charset.specs.declared.fault.TextFault.{TextFault}
 use Rattle.any_charset.specs.declared.fault.TextFault.TheVariants.{Load, NoCharacter}

@@ -21,15 +21,15 @@ use Rattle.catalogue_map.specs.Value.{HasMapRule}
 use Rattle.catalogue.specs.Meaning.{lacking_fields, none_missing}
 use Rattle.po_checks.specs.Kept.{kept_header, header_text_of, HasHeaderRule, NamesAcceptedCharset}
 use Rattle.po_checks.specs.Fails.{IsForeignAt}
-use Rattle.catalogue.specs.Drafts.{header_text_in, HasCollected}
-use Rattle.catalogue.specs.declared.compiler.Stats.{Stats}
+use Rattle.catalogue_drafts.specs.Drafts.{header_text_in, HasCollected}
+use Rattle.catalogue_drafts.specs.declared.stats.Stats.{Stats}
 use Rattle.po_checks.specs.declared.fault.LoadFault.{LoadFault}
 use Rattle.po_checks.specs.declared.fault.LoadKind.TheVariants.{Duplicate, Charset}
-use Rattle.catalogue.proofs.Collecting.{drafts_are}
+use Rattle.catalogue_drafts.proofs.Collecting.{drafts_are}
 use Rattle.catalogue.proofs.Counting.{untranslated_count, fuzzy_count, translated_count, header_line_is}
 use Rattle.catalogue.proofs.Fitting.{fits}
 use Rattle.catalogue.proofs.HeaderFound.{accepted, another, header_text_is, map_text}
-use Rattle.catalogue.proofs.InOrder.{AreOrdered, outline_lt, all_distinct, first_duplicate}
+use Rattle.catalogue_drafts.proofs.InOrder.{AreOrdered, outline_lt, all_distinct, first_duplicate}
 use Rattle.catalogue.proofs.Listing.{map_of, is_map, each_lawful}
 use Rattle.po_checks.proofs.Refusals.{all_pass, first_is_check, first_is_duplicate, first_is_foreign}
 

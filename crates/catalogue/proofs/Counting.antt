@@ -1,17 +1,18 @@
 -- The statistics and the header's line, counted over outlines and over entries.
-use Rattle.catalogue.proofs.Kit.{◌≡◌, ℕ, ◌+◌, ◌≤◌, Bool, true, false, cond, List, [], ◌∷◌, length, Option, Some, None}
+use Rattle.catalogue.proofs.Kit.{◌≡◌, ℕ, ◌+◌, Bool, true, false, cond, List, [], ◌∷◌, Option, Some}
 use Rattle.catalogue.proofs.Kit.{refl, sym, ap, ◌∙◌, arith, find, count_by, sum_by-cons, is_kept, kept_entries}
-use Rattle.catalogue.proofs.Kit.{header_line_of, Kept, Outline, outline, outlines, outline_of, outlines_from, texts_of}
+use Rattle.catalogue.proofs.Kit.{header_line_of, Outline, outline, outlines, outline_of, outlines_from, texts_of}
 use Rattle.catalogue.proofs.Kit.{counts_as, is_kept_header, Options, Draft, Untranslated, Fuzzy, Translated}
 use Rattle.std.proofs.Common.{not}
-use Rattle.std.specs.Prelude.{◌&&◌, is_some, if◌then◌else◌}
+use Rattle.std.specs.Prelude.{◌&&◌, if◌then◌else◌}
 use Rattle.std.specs.Option.{option_map_or}
 use Rattle.po_text.specs.Entries as po
+use Rattle.catalogue_drafts.proofs.Collecting.{kept_texts_are}
 use Rattle.po_checks.specs.Kept.{is_header, is_untranslated}
 use Rattle.catalogue.specs.Meaning.{is_fuzzy, is_translated, counted_entries}
-use Rattle.catalogue.specs.Drafts.{standing_of, same_standing}
-use Rattle.catalogue.specs.declared.texts.Standing.{Standing}
-use Rattle.catalogue.specs.declared.texts.Standing.TheVariants.{Header}
+use Rattle.catalogue_drafts.specs.Drafts.{standing_of, same_standing}
+use Rattle.catalogue_drafts.specs.declared.texts.Standing.{Standing}
+use Rattle.catalogue_drafts.specs.declared.texts.Standing.TheVariants.{Header}
 
 abbrev one_if : {X : Type 0} → (X → Bool) → X → ℕ
 one_if p x = cond (p x) 1 0
@@ -81,14 +82,6 @@ pub translated_count : (o : Options) (es : List po.Entry) (ds : List Draft) → 
 translated_count o es ds are = count_of o es ds Translated is_translated are
     (λ e. translated_so (is_header e) (is_untranslated e) e.fuzzy)
 
-pub count_within : {X : Type 0} (p : X → Bool) (xs : List X) → count_by p xs ≤ length xs
-count_within p [] = omega arith
-count_within p (x ∷ xs) = omega (arith, sum_by-cons (one_if p) x xs, one (p x), count_within p xs)
-  where
-    one : (b : Bool) → cond {A = ℕ} b 1 0 ≤ 1
-    one true = omega arith
-    one false = omega arith
-
 -- ---- the header
 
 line_over_outlines : (ds : List Draft) → option_map_or (λ d. d.line) (find (λ d. is_kept_header (outline d)) ds) 0
@@ -102,10 +95,6 @@ line_over_outlines (d ∷ ds) = of (is_kept_header (outline d)) (line_over_outli
         ≡ option_map_or (λ (r : Outline). r.line) (cond b (Some (outline d)) (find is_kept_header (outlines ds))) 0
     of true rest = refl
     of false rest = rest
-
-pub kept_texts_are : (b : Bool) (t : Kept) → is_some (if b then Some t else None) ≡ b
-kept_texts_are true t = refl
-kept_texts_are false t = refl
 
 pub header_outline : (o : Options) (k : ℕ) (e : po.Entry) → is_kept_header (outline_of o k e)
     ≡ (is_header e && is_kept o e)

@@ -14,7 +14,7 @@ use Rattle.mo_image.specs.MoFile.{with_nul, spelling, entry_size as size}
 use Rattle.mo_image.proofs.MoLengths.{joined_with_nul}
 use Rattle.mo_image.proofs.FileSizes.{file_size}
 use Rattle.mo_image.proofs.EntryParts.{some_form}
-use Rattle.catalogue.proofs.InOrder.{AreOrdered}
+use Rattle.catalogue_drafts.proofs.InOrder.{AreOrdered}
 use Rattle.catalogue.proofs.Listing.{Lawful, kept_is, left_out, map_of}
 
 -- ---- an entry in the file and in the text

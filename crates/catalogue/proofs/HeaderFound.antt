@@ -13,10 +13,10 @@ use Rattle.po_text.specs.Entries as po
 use Rattle.mo_image.specs.Entry.{key_bytes}
 use Rattle.mo_image.specs.Map.{entry_at, first_form, header_text}
 use Rattle.po_checks.specs.Kept.{is_empty, is_header, kept_header, header_text_of, NamesAcceptedCharset}
-use Rattle.catalogue.specs.Drafts.{outline_text, text_found, header_text_in}
+use Rattle.catalogue_drafts.specs.Drafts.{outline_text, text_found, header_text_in}
 use Rattle.catalogue.proofs.Counting.{AreOutlines, header_outline, split_find}
 use Rattle.mo_image.proofs.EntryParts.{split_joined, some_form, lack_nul}
-use Rattle.catalogue.proofs.Members.{has_head, has_tail, has_cases, has_map, from_map, from_filter, from_find}
+use Rattle.catalogue_drafts.proofs.Members.{has_head, has_tail, has_cases, has_map, from_map, from_filter, from_find}
 
 -- an outline is that of a kept entry
 pub record IsRowOf (o : Options) (es : List po.Entry) (r : Outline) (e : po.Entry) : Type 0 where

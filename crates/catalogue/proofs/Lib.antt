@@ -1,14 +1,6 @@
 pub mod Kit
-pub mod Members
-pub mod OutlineOrder
-pub mod Repeats
-pub mod Keeping
-pub mod Keying
-pub mod InOrder
-pub mod PoEntries
 pub mod Listing
 pub mod Fitting
-pub mod Collecting
 pub mod Counting
 pub mod HeaderFound
 pub mod Compiling

@@ -13,8 +13,8 @@ use Rattle.po_text.specs.Entries as po
 use Rattle.mo_image.specs.Parts.{entry_from}
 use Rattle.mo_image.proofs.EntryParts.{entry_again}
 use Rattle.mo_image.proofs.KeyParts.{rejoined}
-use Rattle.catalogue.proofs.InOrder.{AreOrdered, Comes, comes, stands, outline_lt}
-use Rattle.catalogue.proofs.Members.{has_head, has_tail, has_map, has_filter, has_filter_map}
+use Rattle.catalogue_drafts.proofs.InOrder.{AreOrdered, Comes, comes, stands, outline_lt}
+use Rattle.catalogue_drafts.proofs.Members.{has_head, has_tail, has_map, has_filter, has_filter_map}
 
 abbrev pub Lawful : po.Entry → Type 0
 Lawful e = IsLawfulEntry (message_of e)

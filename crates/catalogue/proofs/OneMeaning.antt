@@ -11,8 +11,8 @@ use Rattle.po_text.specs.declared.fault.PoKind.{PoKind}
 use Rattle.po_text.specs.declared.fault.PoKind.TheVariants as kinds
 use Rattle.po_text.proofs.Outcomes.{gives_one, refuses_one, gives_or_refuses}
 use Rattle.catalogue.specs.Meaning.{stats_of, missing_of}
-use Rattle.catalogue.specs.declared.compiler.Stats.{Stats}
-use Rattle.catalogue.proofs.Members.{has_head, has_tail, has_cases}
+use Rattle.catalogue_drafts.specs.declared.stats.Stats.{Stats}
+use Rattle.catalogue_drafts.proofs.Members.{has_head, has_tail, has_cases}
 use Rattle.po_checks.proofs.Refusals.{first_refusal_one}
 
 -- ---- one list of entries with rising keys

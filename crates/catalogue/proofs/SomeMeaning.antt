@@ -16,10 +16,10 @@ use Rattle.po_text.proofs.SomeOutcome.{some_outcome}
 use Rattle.catalogue.specs.Meaning.{stats_of, missing_of}
 use Rattle.po_checks.specs.Fails.{rank}
 use Rattle.po_checks.specs.declared.fault.LoadKind.TheVariants.{Duplicate}
-use Rattle.catalogue.proofs.Collecting.{text_refuses}
+use Rattle.catalogue_drafts.proofs.Collecting.{text_refuses}
 use Rattle.catalogue.proofs.Compiling.{as_refusal}
 use Rattle.catalogue.proofs.OneMeaning.{rises_behind, below_members}
-use Rattle.catalogue.proofs.Members.{has_head, has_tail, has_cases, has_map, from_map, from_filter}
+use Rattle.catalogue_drafts.proofs.Members.{has_head, has_tail, has_cases, has_map, from_map, from_filter}
 
 all_from : {X : Type 0} (P : X → Type 0) (xs : List X) → ((x : X) → Contains xs x → P x) → All P xs
 all_from P [] h = All-nil P

@@ -12,7 +12,3 @@ pub use Rattle.po_checks.specs.Checks
 pub use Rattle.po_checks.specs.Fails
 pub mod Meaning
 pub mod Laws
-pub mod Shares
-pub mod Keyed
-pub mod Drafts
-pub mod Reading

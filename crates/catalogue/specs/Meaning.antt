@@ -5,18 +5,16 @@ use Rattle.std.specs.Prelude.{Option, Some, None}
 use Rattle.std.specs.List.{filter, count_by}
 use Rattle.po_text.specs.Entries as po
 use Rattle.po_text.specs.Outcome as po_outcome
-use Rattle.po_text.specs.declared.PoKind.TheVariants as po_kind
 use Rattle.po_header.specs.Fields.{missing}
 use Rattle.mo_image.specs.Entry.{Entry, key}
 use Rattle.mo_image.specs.Map.{Rises}
 pub use Rattle.po_checks.specs.Kept.{message_of, key_of, is_header, is_untranslated, is_kept, kept_entries, kept_header}
 pub use Rattle.po_checks.specs.Kept.{header_line_of, header_text_of, HasHeaderRule, NamesAcceptedCharset}
 pub use Rattle.po_checks.specs.Fails.{Fails, IsFirst, rank}
+pub use Rattle.catalogue_drafts.specs.Refusals.{Refuses}
 use Rattle.po_checks.specs.declared.options.Options.{Options}
 use Rattle.po_checks.specs.declared.fault.LoadKind.{LoadKind}
-use Rattle.po_checks.specs.declared.fault.LoadKind.TheVariants.{TooLarge, NotUtf8, BadEscape, OpenString, BadWord}
-use Rattle.po_checks.specs.declared.fault.LoadKind.TheVariants.{BadText, BadOrder, BadIndex}
-use Rattle.catalogue.specs.declared.compiler.Stats.{Stats}
+use Rattle.catalogue_drafts.specs.declared.stats.Stats.{Stats}
 use Rattle.catalogue.specs.declared.compiler.Compiled.{Compiled}
 
 -- the map of the kept entries: it lists them and nothing else, in rising order of their keys
@@ -67,17 +65,3 @@ pub record Means (text : List ℕ) (options : Options) (compiled : Compiled) : T
   pub stats_are : compiled.stats ≡ stats_of entries
   pub header_line_is : compiled.header_line ≡ header_line_of options entries
   pub missing_is : compiled.missing ≡ missing_of options entries
-
--- the text is refused with this kind at this line: first come the faults of the PO text, then the refusals of its
--- entries
-abbrev pub Refuses : List ℕ → Options → LoadKind → ℕ → Type 0
-Refuses text options TooLarge line = po_outcome.Refuses text po_kind.TooLarge line
-Refuses text options NotUtf8 line = po_outcome.Refuses text po_kind.NotUtf8 line
-Refuses text options BadEscape line = po_outcome.Refuses text po_kind.BadEscape line
-Refuses text options OpenString line = po_outcome.Refuses text po_kind.OpenString line
-Refuses text options BadWord line = po_outcome.Refuses text po_kind.BadWord line
-Refuses text options BadText line = po_outcome.Refuses text po_kind.BadText line
-Refuses text options BadOrder line = po_outcome.Refuses text po_kind.BadOrder line
-Refuses text options BadIndex line = po_outcome.Refuses text po_kind.BadIndex line
-Refuses text options kind line = (entries : List po.Entry) × po_outcome.Gives text entries
-    × IsFirst (Fails options entries) kind line

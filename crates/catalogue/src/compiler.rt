@@ -1,33 +1,21 @@
 //! Compiles a PO text to a catalogue.
 ghost use Rattle.std.specs.Prelude.{◌≡◌, ◌<◌, ◌^◌, ◌⊎◌, ◌↔◌, ℕ, List, IfOk, IfErr, IfSome, IsTrue, length};
 ghost use Rattle.std.specs.Prelude.{if◌then◌else◌, option_map};
-ghost use Rattle.std.specs.List.{count_by};
-ghost use Rattle.catalogue.specs.Drafts.{counts_as, outline};
-ghost use Rattle.catalogue.specs.Reading.{IsReadOf};
+ghost use Rattle.catalogue_drafts.specs.Reading.{IsReadOf};
 ghost use Rattle.mo_image.specs.Map.{HasAcceptedCharset};
 ghost use Rattle.catalogue.specs.Meaning.{lacking_fields, none_missing, Means, Refuses};
 ghost use Rattle.po_checks.specs.Refusal.{out_of_memory};
 
-use crate::collect::{Collected, collect};
-use crate::draft::Draft;
-use crate::drafts::{KeptDrafts, counts_as, first_repeat, header_line, header_text, keep, sort};
-use crate::texts::Standing;
 use bumpalo::Bump;
+use catalogue_drafts::{
+    Collected, Draft, KeptDrafts, Stats, collect, first_repeat, header_line, header_text, keep,
+    sort, stats_of,
+};
 use catalogue_map::Catalogue;
 use mo_image::{HEADER_LEN, ROW_LEN};
 use po_checks::{LoadFault, LoadKind, Options};
 use po_header::{has_accepted_charset, missing_fields, rule_in};
 use std::alloc::Global;
-
-/// Counts of the entries of a PO text other than its header, kept or not.
-#[derive(Clone, Copy, Debug, PartialEq, Eq)]
-pub struct Stats {
-    pub translated: u32,
-    /// Fuzzy entries that have a translation.
-    pub fuzzy: u32,
-    /// Entries whose first form is empty.
-    pub untranslated: u32,
-}
 
 /// What a PO text compiles to.
 #[derive(Drop)]
@@ -39,27 +27,6 @@ pub struct Compiled {
     pub missing: [bool; 8],
     /// The line of the kept header, or 0 if there is none.
     pub header_line: u32,
-}
-
-/// Counts the drafts by their standing.
-fn stats_of(drafts: &[Draft<'_>]) -> Stats
-    requires { length drafts.now < 2 ^ 32 }
-    ensures translated { result.translated ≡ count_by (λ d. counts_as Standing.Translated (outline d)) drafts.now }
-    ensures fuzzy { result.fuzzy ≡ count_by (λ d. counts_as Standing.Fuzzy (outline d)) drafts.now }
-    ensures untranslated { result.untranslated
-        ≡ count_by (λ d. counts_as Standing.Untranslated (outline d)) drafts.now }
-{
-    let mut stats = Stats {
-        translated: 0,
-        fuzzy: 0,
-        untranslated: 0,
-    };
-    'drafts: for draft in drafts {
-        stats.translated += u32::from(counts_as(draft, Standing::Translated));
-        stats.fuzzy += u32::from(counts_as(draft, Standing::Fuzzy));
-        stats.untranslated += u32::from(counts_as(draft, Standing::Untranslated));
-    }
-    stats
 }
 
 /// Whether the header names an accepted charset or none, or there is no header.

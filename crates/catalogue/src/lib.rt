@@ -4,16 +4,12 @@
 //! translated forms and, if the message has a plural, its msgid_plural.
 #![tactic(auto)]
 
-mod collect;
 mod compiler;
-mod draft;
-mod drafts;
 mod law;
-mod pool;
-mod texts;
 
+pub use catalogue_drafts::Stats;
 pub use catalogue_map::{Catalogue, Found, Message, counted, first_form, untranslated};
-pub use compiler::{Compiled, Stats, compile, compile_owned};
+pub use compiler::{Compiled, compile, compile_owned};
 pub use entry_search::{AskedKey, NO_HINT, Steps};
 pub use law::one_meaning;
 pub use mo_image::{EntryRef, EntryStrings, Forms};

@@ -12,7 +12,7 @@ use Rattle.po_header.specs.Rule.{Rule, Absent, form_index}
 use Rattle.po_header.proofs.RuleLemmas.{HasRule-some}
 use Rattle.catalogue.specs.Map.{header_text, entry_at}
 use Rattle.catalogue.specs.Value.{IsFirstForm, IsCounted, HasRuleIn, form_or_first, text_by}
-use Rattle.catalogue.proofs.Members.{from_find}
+use Rattle.catalogue_drafts.proofs.Members.{from_find}
 use Rattle.entry_search.proofs.Searching.{some_at}
 use Rattle.catalogue.proofs.SomeMeaning.{IsFormed}
 use Rattle.live_set.specs.LanguageList.{named_locales}

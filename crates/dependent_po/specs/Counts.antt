@@ -3,7 +3,7 @@ use Rattle.std.specs.Prelude.{Bool, true, false, if◌then◌else◌, List}
 use Rattle.std.specs.List.{count_by}
 use Rattle.po_text.specs.Entries as po
 pub use Rattle.po_checks.specs.Kept.{is_header, is_untranslated}
-pub use Rattle.catalogue.specs.declared.compiler.Stats.{Stats}
+pub use Rattle.catalogue.specs.declared.Stats.{Stats}
 pub use Rattle.dependent_po.specs.declared.counts.Standing.{Standing}
 use Rattle.dependent_po.specs.declared.counts.Standing.TheVariants.{Header, Untranslated, Fuzzy, Translated}
 

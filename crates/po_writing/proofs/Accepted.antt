@@ -25,7 +25,7 @@ use Rattle.po_checks.specs.declared.fault.LoadKind.TheVariants.{BadText, BadOrde
 use Rattle.po_checks.specs.declared.fault.LoadKind.TheVariants.{SystemDependent, NoRule, BadRule, FormCount}
 use Rattle.po_checks.specs.declared.fault.LoadKind.TheVariants.{PluralRange, FormatMismatch, NewlineMismatch}
 use Rattle.catalogue.specs.Meaning.{message_of, Refuses}
-use Rattle.catalogue.proofs.Members.{has_cases, has_head, has_tail, has_map}
+use Rattle.catalogue_drafts.proofs.Members.{has_cases, has_head, has_tail, has_map}
 use Rattle.catalogue.proofs.OneMeaning.{rises_behind, below_members}
 use Rattle.po_writing.specs.Written.{po_of}
 use Rattle.po_writing.specs.Laws.{HasNoFlag, Tells}

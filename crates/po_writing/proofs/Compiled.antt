@@ -17,7 +17,7 @@ use Rattle.po_checks.specs.Kept.{has_empty_form, is_kept}
 use Rattle.po_checks.specs.declared.options.Options.{Options}
 use Rattle.catalogue.specs.Meaning.{message_of, kept_entries, IsMapOf, Means}
 use Rattle.catalogue.specs.declared.compiler.Compiled.{Compiled}
-use Rattle.catalogue.proofs.Members.{has_cases, has_head, has_tail}
+use Rattle.catalogue_drafts.proofs.Members.{has_cases, has_head, has_tail}
 use Rattle.catalogue.proofs.OneMeaning.{rises_behind, below_members, meaning_one}
 use Rattle.po_writing.specs.Written.{po_of}
 use Rattle.po_writing.specs.Laws.{HasNoFlag, is_translated, translated_entries}

@@ -1,5 +1,5 @@
 use Rattle.live_set.proofs.Kit.{sym, subst, ◌∙◌, is_for, IsName}
-use Rattle.catalogue.proofs.Members.{from_find}
+use Rattle.catalogue_drafts.proofs.Members.{from_find}
 use Rattle.live_set.proofs.Order.{for_tied, same_locale}
 use Rattle.live_set.proofs.set.CatalogueSet.catalogue.Goals as goal
 

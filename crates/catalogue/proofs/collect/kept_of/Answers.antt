@@ -1,8 +1,0 @@
-use Rattle.std.proofs.Common.{rules}
-use Rattle.catalogue.proofs.PoEntries.{kept_plural}
-use Rattle.catalogue.proofs.collect.kept_of.Goals as goal
-
-pub returns-in_ok-plural_of-in-Some : goal.returns-in_ok-plural_of-in-Some
-returns-in_ok-plural_of-in-Some c =
-    kept_plural c.args.options c.args.entry.now c.in-Some.plural.now _ (search rules) (c.in-Some.ensures)
-    c.requires.lawful.plural c.in_ok-plural_of-in-Some.ensures

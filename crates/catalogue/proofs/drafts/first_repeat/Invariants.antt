@@ -1,5 +1,0 @@
-use Rattle.catalogue.specs.Drafts.{outline_if, outlines, FirstRepeat}
-use Rattle.catalogue.proofs.drafts.first_repeat.Given as goal
-
-abbrev pub invariant-pairs : goal.invariant-pairs
-invariant-pairs l = FirstRepeat (outlines l.drafts) l.i (outline_if l.first)

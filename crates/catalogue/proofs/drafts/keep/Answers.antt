@@ -1,9 +1,0 @@
-use Rattle.std.proofs.Common.{rules, ap, ◌∙◌}
-use Rattle.std.proofs.lemmas.Fn.{filter_same}
-use Rattle.catalogue.specs.Drafts.{drafts_entries}
-use Rattle.catalogue.proofs.Keeping.{has_texts, kept_are}
-use Rattle.catalogue.proofs.drafts.keep.Goals as goal
-
-pub returns : goal.returns
-returns c = ap drafts_entries (filter_same _ has_texts _ (λ x b f' k. search rules) _ _ c.retain.ensures.filtered)
-    ∙ kept_are c.args.drafts.now.items

@@ -1,8 +1,0 @@
-use Rattle.catalogue.proofs.Kit.{rules, comes_before}
-use Rattle.std.proofs.lemmas.List.Sorted.{answers_always}
-use Rattle.catalogue.proofs.OutlineOrder.{draft_order}
-use Rattle.catalogue.proofs.drafts.sort.Goals as goal
-
-pub returns-clause-sorted : goal.returns-clause-sorted
-returns-clause-sorted c = c.sort_unstable_by.ensures.sorted comes_before draft_order
-    (answers_always _ _ _ (λ f a r q k. search rules))

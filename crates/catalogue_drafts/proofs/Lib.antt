@@ -1,0 +1,9 @@
+pub mod Kit
+pub mod Members
+pub mod OutlineOrder
+pub mod Repeats
+pub mod Keeping
+pub mod Keying
+pub mod InOrder
+pub mod PoEntries
+pub mod Collecting
