@@ -8,12 +8,13 @@ use Rattle.catalogue.specs.declared.LoadFault.{LoadFault}
 use Rattle.catalogue.proofs.OneMeaning.{meaning_one, means_or_refuses, refusal_one}
 use Rattle.msgfmt_words.specs.Words.{AreFaulty, AreTaken, AskForHelp, Asked, request_in}
 use Rattle.devices.specs.Devices.{IsFront, InputSeen}
-use Rattle.msgfmt_tool.specs.Runs.{FilesSeen, IsRefused, MakesFile, Reads, Run, Runs, is_standard, most_read}
+use Rattle.msgfmt_steps.specs.RunDevices.{FilesSeen, Reads, is_standard, most_read}
+use Rattle.msgfmt_tool.specs.Runs.{IsRefused, MakesFile, Run, Runs}
 use Rattle.msgfmt_tool.specs.Laws.{BeginAlike, IsSettled}
-use Rattle.msgfmt_tool.specs.declared.outcome.Cause.TheVariants.{Words, NoInput, CannotRead, Refused, CannotWrite}
-use Rattle.msgfmt_tool.specs.declared.outcome.Cause.TheVariants.{ErrorOutput, Memory}
-use Rattle.msgfmt_tool.specs.declared.outcome.Status.{Status}
-use Rattle.msgfmt_tool.specs.declared.outcome.Status.TheVariants.{Done, Failed}
+use Rattle.msgfmt_steps.specs.declared.outcome.Cause.TheVariants.{Words, NoInput, CannotRead, Refused, CannotWrite}
+use Rattle.msgfmt_steps.specs.declared.outcome.Cause.TheVariants.{ErrorOutput, Memory}
+use Rattle.msgfmt_steps.specs.declared.outcome.Status.{Status}
+use Rattle.msgfmt_steps.specs.declared.outcome.Status.TheVariants.{Done, Failed}
 
 -- ---- one text
 

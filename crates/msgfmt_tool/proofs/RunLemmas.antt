@@ -6,19 +6,19 @@ use Rattle.devices.specs.Files.{KeepsLog, Log, Logs, MayLog}
 use Rattle.catalogue.specs.MoFile.{spelling}
 use Rattle.catalogue.specs.declared.Compiled.{Compiled}
 use Rattle.msgfmt_words.specs.Words.{AreTaken, Asked, request_in}
-use Rattle.msgfmt_tool.specs.Runs.{Change, Compiles, Fails, FailsToWarn, FailsToWrite, FilesSeen}
-use Rattle.msgfmt_tool.specs.Runs.{IsUnwritable, IsUnwritten, MakesFile, MakesFileFirst, Run, Runs, Writes, is_standard}
-use Rattle.msgfmt_tool.specs.RunSteps.{CompilesNamed, Delivers, EndsCompiling, EndsTelling, Tells, Works}
+use Rattle.msgfmt_steps.specs.RunDevices.{Change, FailsToWrite, FilesSeen}
+use Rattle.msgfmt_tool.specs.Runs.{Compiles, Fails, FailsToWarn}
+use Rattle.msgfmt_steps.specs.RunDevices.{IsUnwritten, Writes, is_standard}
+use Rattle.msgfmt_tool.specs.Runs.{IsUnwritable, MakesFile, MakesFileFirst, Run, Runs}
+use Rattle.msgfmt_steps.specs.StepEnds.{Tells}
+use Rattle.msgfmt_tool.specs.RunSteps.{CompilesNamed, Delivers, EndsCompiling, Works}
 use Rattle.msgfmt_tool.specs.RunSteps.{WritesCompiled}
-use Rattle.msgfmt_tool.specs.declared.outcome.Cause.{Cause}
-use Rattle.msgfmt_tool.specs.declared.outcome.Cause.TheVariants.{Words, NoInput, CannotRead, Refused, CannotWrite}
-use Rattle.msgfmt_tool.specs.declared.outcome.Cause.TheVariants.{ErrorOutput, Memory}
-use Rattle.msgfmt_tool.specs.declared.outcome.Status.{Status}
-use Rattle.msgfmt_tool.specs.declared.outcome.Status.TheVariants.{Failed}
-
--- from one state to another
-abbrev pub between : {Seen : Type 0} → Seen → Seen → Change Seen
-between old new = record { before = old; after = new }
+use Rattle.msgfmt_steps.proofs.Telling.{between}
+use Rattle.msgfmt_steps.specs.declared.outcome.Cause.{Cause}
+use Rattle.msgfmt_steps.specs.declared.outcome.Cause.TheVariants.{Words, NoInput, CannotRead, Refused, CannotWrite}
+use Rattle.msgfmt_steps.specs.declared.outcome.Cause.TheVariants.{ErrorOutput, Memory}
+use Rattle.msgfmt_steps.specs.declared.outcome.Status.{Status}
+use Rattle.msgfmt_steps.specs.declared.outcome.Status.TheVariants.{Failed}
 
 -- ---- counts and logs, over two steps
 
@@ -29,10 +29,6 @@ rises_after a b c le (inr h) = inr h
 pub rises_before : (a b c : ℕ) → RisesBy 1 a b → b ≤ c → RisesBy 1 a c
 rises_before a b c (inl h) le = inl (omega arith)
 rises_before a b c (inr h) le = inr (omega arith)
-
-pub tells_later : (a b c : ℕ) (cause : Cause) → b ≡ a → EndsTelling (between b c) cause
-    → EndsTelling (between a c) cause
-tells_later a b c cause is h = subst (λ x. EndsTelling (between x c) cause) is h
 
 kept_twice : (a b c : Log) → KeepsLog a b → KeepsLog b c → KeepsLog a c
 kept_twice None b c h k = tt

@@ -10,13 +10,15 @@ use Rattle.catalogue.specs.MoFile.{spelling}
 use Rattle.catalogue.proofs.SomeMeaning.{some_meaning}
 use Rattle.msgfmt_words.specs.Words.{AreTaken, AskForHelp, request_in, word_faults}
 use Rattle.devices.specs.Devices.{IsFront, InputSeen, OutputSeen}
-use Rattle.msgfmt_tool.specs.Runs.{FilesSeen, Reads, Run, Writes, is_standard, most_read}
+use Rattle.msgfmt_steps.specs.RunDevices.{FilesSeen, Reads, Writes, is_standard, most_read}
+use Rattle.msgfmt_tool.specs.Runs.{Run}
 use Rattle.msgfmt_tool.specs.Laws.{SettledRun}
-use Rattle.msgfmt_tool.specs.declared.outcome.Cause.TheVariants.{Words, NoInput, Refused}
-use Rattle.msgfmt_tool.specs.declared.outcome.Status.TheVariants.{Done, Failed}
+use Rattle.msgfmt_steps.specs.declared.outcome.Cause.TheVariants.{Words, NoInput, Refused}
+use Rattle.msgfmt_steps.specs.declared.outcome.Status.TheVariants.{Done, Failed}
 use Rattle.msgfmt_words.proofs.OneFault.{One}
 use Rattle.msgfmt_words.proofs.WordLemmas.{one_fault}
-use Rattle.msgfmt_tool.proofs.RunLemmas.{between, kept_same, run_over}
+use Rattle.msgfmt_steps.proofs.Telling.{between}
+use Rattle.msgfmt_tool.proofs.RunLemmas.{kept_same, run_over}
 
 -- ---- what is read and written where nothing fails
 

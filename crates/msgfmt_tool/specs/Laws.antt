@@ -1,11 +1,12 @@
 -- Every command line has one outcome, unless a device fails or memory runs out.
 use Rattle.std.specs.Prelude.{◌≡◌, ⊤, ℕ, List, IsSome}
-use Rattle.msgfmt_tool.specs.Runs.{FilesSeen, MakesFile, Run, Runs}
+use Rattle.msgfmt_steps.specs.RunDevices.{FilesSeen}
+use Rattle.msgfmt_tool.specs.Runs.{MakesFile, Run, Runs}
 use Rattle.devices.specs.Devices.{InputSeen, OutputSeen}
 use Rattle.msgfmt_words.specs.Words.{Asked}
-use Rattle.msgfmt_tool.specs.declared.outcome.Cause.TheVariants.{Words, NoInput, Refused}
-use Rattle.msgfmt_tool.specs.declared.outcome.Status.{Status}
-use Rattle.msgfmt_tool.specs.declared.outcome.Status.TheVariants.{Done, Failed}
+use Rattle.msgfmt_steps.specs.declared.outcome.Cause.TheVariants.{Words, NoInput, Refused}
+use Rattle.msgfmt_steps.specs.declared.outcome.Status.{Status}
+use Rattle.msgfmt_steps.specs.declared.outcome.Status.TheVariants.{Done, Failed}
 
 -- a status that the arguments and the texts decide: no device failed, and memory didn't run out
 abbrev pub IsSettled : Status → Type 0

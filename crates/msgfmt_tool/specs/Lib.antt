@@ -1,4 +1,3 @@
 pub mod Runs
-pub mod Causes
 pub mod RunSteps
 pub mod Laws

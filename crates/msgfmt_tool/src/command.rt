@@ -1,16 +1,16 @@
 //! A run of the command.
-ghost use Rattle.std.specs.Prelude.{◌≡◌, ◌≤◌, map, string_bytes};
+ghost use Rattle.std.specs.Prelude.{map, string_bytes};
 ghost use Rattle.msgfmt_words.specs.Requests.{asked_in};
-ghost use Rattle.msgfmt_tool.specs.Runs.{Runs, change, files_seen};
 ghost use Rattle.devices.specs.Devices.{input_seen, output_seen};
-ghost use Rattle.msgfmt_tool.specs.RunSteps.{AnswersWords, Delivers, Tells, Works};
+ghost use Rattle.msgfmt_steps.specs.RunDevices.{change, files_seen};
+ghost use Rattle.msgfmt_tool.specs.Runs.{Runs};
+ghost use Rattle.msgfmt_tool.specs.RunSteps.{Delivers, Works};
 
-use crate::outcome::{Cause, Status};
-use crate::steps::{compile_input, report, warn, write_output};
-use crate::texts::Failure;
+use crate::compiling::compile_input;
 use catalogue::Compiled;
 use devices::{Files, Sink, Source};
-use msgfmt_words::{Request, WordsFault, parse};
+use msgfmt_steps::{Cause, Status, answer_words, end, report, warn, write_output};
+use msgfmt_words::{Request, parse};
 use std::alloc::Global;
 
 /// Delivers what was compiled: the warnings, then FILE, then the statistics.
@@ -30,7 +30,7 @@ fn deliver<F: Files, W: Sink, E: Sink>(
         (asked_in request.now) compiled.now result }
 {
     if request.options.checked {
-        warn(alloc, name, compiled, errors)?;
+        warn(alloc, name, compiled.header_line, &compiled.missing, errors)?;
     }
     write_output(
         alloc,
@@ -66,62 +66,6 @@ fn work<F: Files, R: Source, W: Sink, E: Sink>(
     };
     let compiled = compile_input(alloc, name, request.options, files, reader)?;
     deliver(alloc, request, name, &compiled, files, writer, errors)
-}
-
-/// Answers arguments that give no request: with the help text if they ask for it.
-fn answer_words<W: Sink>(fault: &WordsFault, writer: &mut W) -> Result<(), Cause>
-    ensures { AnswersWords (change (output_seen W.contents W.failures) writer.old writer.new) fault.now result }
-{
-    match fault {
-        WordsFault::Help(text) => {
-            writer.write_all(text.as_bytes())?;
-            Ok(())
-        }
-        WordsFault::Faulty => Err(Cause::Words),
-        WordsFault::Memory => Err(Cause::Memory),
-    }
-}
-
-/// Writes a line to the error output. If that can't be written, the run has failed all the same.
-fn say<E: Sink>(errors: &mut E, line: &str)
-    ensures { E.failures errors.old ≤ E.failures errors.new }
-{
-    let _written = errors.write_all(line.as_bytes());
-}
-
-/// The status of a run whose work is done, after a line that says why it failed. There is no line if the
-/// error output fails. The status is `Memory` if there is no memory for the line.
-fn end<E: Sink>(
-    alloc: Global,
-    done: Result<(), Cause>,
-    input: &str,
-    output: &str,
-    errors: &mut E,
-) -> Status
-    ensures tells { Tells (change E.failures errors.old errors.new) done result }
-    ensures later { E.failures errors.old ≤ E.failures errors.new }
-{
-    let Err(cause) = done else {
-        return Status::Done;
-    };
-    if cause == Cause::ErrorOutput {
-        return Status::Failed(cause);
-    }
-    let failure = Failure {
-        cause,
-        input,
-        output,
-    };
-    match format!(in alloc; "{failure}\n") {
-        Ok(line) => {
-            say(errors, line.as_str());
-            Status::Failed(cause)
-        }
-        Err(_) => {
-            say(errors, "msgfmt: out of memory\n");
-            Status::Failed(Cause::Memory)
-        }
-    }
 }
 
 /// Runs a command line, whose first argument is the program's name: reads the PO text INPUT and writes its MO

@@ -5,12 +5,9 @@
 #![tactic(auto)]
 
 mod command;
+mod compiling;
 mod law;
-mod outcome;
-mod steps;
-mod texts;
 
 pub use command::run;
 pub use law::one_status;
-pub use outcome::{Cause, Status};
-pub use steps::MOST_INPUT;
+pub use msgfmt_steps::{Cause, MOST_INPUT, Status};

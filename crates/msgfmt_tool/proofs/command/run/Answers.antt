@@ -1,6 +1,6 @@
 use Rattle.std.proofs.Common.{◌∙◌, ap, map, rules, string_bytes, subst}
 use Rattle.msgfmt_words.specs.Requests.{asked_in}
-use Rattle.msgfmt_tool.specs.Runs.{change, files_seen}
+use Rattle.msgfmt_steps.specs.RunDevices.{change, files_seen}
 use Rattle.devices.specs.Devices.{input_seen, output_seen}
 use Rattle.msgfmt_words.specs.Words.{AreTaken, request_in}
 use Rattle.msgfmt_tool.proofs.RunLemmas.{ended}

@@ -1,8 +1,9 @@
 use Rattle.std.proofs.Common.{ap, option_map}
 use Rattle.msgfmt_words.specs.Requests.{asked_in}
-use Rattle.msgfmt_tool.specs.Runs.{change, files_seen}
+use Rattle.msgfmt_steps.specs.RunDevices.{change, files_seen}
 use Rattle.devices.specs.Devices.{input_seen, output_seen}
-use Rattle.msgfmt_tool.proofs.RunLemmas.{between, delivered, ends_compiling}
+use Rattle.msgfmt_steps.proofs.Telling.{between}
+use Rattle.msgfmt_tool.proofs.RunLemmas.{delivered, ends_compiling}
 use Rattle.msgfmt_tool.proofs.command.work.Goals as goal
 
 pub returns-in_err-compiled : goal.returns-in_err-compiled

@@ -1,22 +1,23 @@
 //! The steps of a run, in their order.
 ghost use Rattle.std.specs.Prelude.{◌≤◌, IfErr, IfOk, OnOk};
-ghost use Rattle.devices.specs.Files.{KeepsLog};
-ghost use Rattle.msgfmt_tool.specs.Runs.{Reads, TellsAll, Writes, change, files_seen, is_standard};
 ghost use Rattle.devices.specs.Devices.{input_seen, output_seen};
-ghost use Rattle.msgfmt_tool.specs.RunSteps.{CompilesNamed, EndsCompiling, EndsReading, EndsTelling, EndsWriting};
+ghost use Rattle.devices.specs.Files.{KeepsLog};
+ghost use Rattle.msgfmt_steps.specs.RunDevices.{Reads, TellsAll, Writes, change, files_seen, is_standard};
+ghost use Rattle.msgfmt_steps.specs.StepEnds.{EndsReading, EndsTelling, EndsWriting};
 
 use crate::outcome::Cause;
 use crate::texts::StatisticsText;
-use catalogue::{Compiled, MAX_TEXT, Options, Stats, compile_owned};
+use catalogue_drafts::Stats;
 use devices::{FileFault, Files, Sink, Source, read_all};
 use po_header::FIELD_NAMES;
+use po_text::MAX_TEXT;
 use std::alloc::Global;
 
 /// How many bytes of an input are read: one more than a text may have.
 pub const MOST_INPUT: usize = MAX_TEXT + 1;
 
 /// The text of INPUT.
-fn read_input<F: Files, R: Source>(
+pub fn read_input<F: Files, R: Source>(
     alloc: Global,
     name: &str,
     files: &mut F,
@@ -42,28 +43,6 @@ fn read_input<F: Files, R: Source>(
     }
 }
 
-/// Compiles the text of INPUT. It takes the text, so that the text and its MO file aren't in memory at once.
-pub(crate) fn compile_input<F: Files, R: Source>(
-    alloc: Global,
-    name: &str,
-    options: Options,
-    files: &mut F,
-    reader: &mut R,
-) -> Result<Compiled, Cause>
-    ensures compiles { IfOk result (CompilesNamed
-        (files_seen F.content F.written F.failures files.old)
-        (change (input_seen R.remaining R.reads R.failures) reader.old reader.new) name.now options) }
-    ensures fails { IfErr result (EndsCompiling
-        (change (files_seen F.content F.written F.failures) files.old files.new)
-        (change (input_seen R.remaining R.reads R.failures) reader.old reader.new) name.now options) }
-    ensures none_written { KeepsLog (F.written files.old) (F.written files.new) }
-    ensures later { F.failures files.old ≤ F.failures files.new }
-{
-    let text = read_input(alloc, name, files, reader)?;
-    let compiled = compile_owned(alloc, text, options)?;
-    Ok(compiled)
-}
-
 /// Writes a line to the error output.
 fn tell<E: Sink>(errors: &mut E, line: &str) -> Result<(), Cause>
     ensures later { E.failures errors.old ≤ E.failures errors.new }
@@ -76,20 +55,20 @@ fn tell<E: Sink>(errors: &mut E, line: &str) -> Result<(), Cause>
     }
 }
 
-/// A line for each header field that is missing, in the order of `FIELD_NAMES`.
-#[tactic(auto, using(crate::proofs::RunLemmas::tells_later))]
-pub(crate) fn warn<E: Sink>(
+/// A warning for each header field that is missing, in the order of `FIELD_NAMES`, at the header's line of INPUT.
+#[tactic(auto, using(crate::proofs::Telling::tells_later))]
+pub fn warn<E: Sink>(
     alloc: Global,
     name: &str,
-    compiled: &Compiled,
+    line: u32,
+    missing: &[bool; 8],
     errors: &mut E,
 ) -> Result<(), Cause>
     ensures later { E.failures errors.old ≤ E.failures errors.new }
     ensures told { OnOk result (TellsAll (change E.failures errors.old errors.new)) }
     ensures fails { IfErr result (EndsTelling (change E.failures errors.old errors.new)) }
 {
-    let line = compiled.header_line;
-    'fields: for (is_missing, field) in compiled.missing.iter().zip(FIELD_NAMES.iter()) {
+    'fields: for (is_missing, field) in missing.iter().zip(FIELD_NAMES.iter()) {
         if *is_missing {
             let warning = format!(in alloc;
                 "{name}:{line}: warning: header field '{field}' missing\n"
@@ -101,7 +80,7 @@ pub(crate) fn warn<E: Sink>(
 }
 
 /// Writes FILE.
-pub(crate) fn write_output<F: Files, W: Sink>(
+pub fn write_output<F: Files, W: Sink>(
     alloc: Global,
     name: &str,
     file: &[u8],
@@ -127,7 +106,7 @@ pub(crate) fn write_output<F: Files, W: Sink>(
 }
 
 /// Writes the statistics to the error output.
-pub(crate) fn report<E: Sink>(alloc: Global, stats: Stats, errors: &mut E) -> Result<(), Cause>
+pub fn report<E: Sink>(alloc: Global, stats: Stats, errors: &mut E) -> Result<(), Cause>
     ensures later { E.failures errors.old ≤ E.failures errors.new }
     ensures told { OnOk result (TellsAll (change E.failures errors.old errors.new)) }
     ensures fails { IfErr result (EndsTelling (change E.failures errors.old errors.new)) }

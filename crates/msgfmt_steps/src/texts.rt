@@ -1,7 +1,8 @@
 //! The texts of the error output.
 
 use crate::outcome::Cause;
-use catalogue::{LoadFault, Stats};
+use catalogue_drafts::Stats;
+use po_checks::LoadFault;
 use std::fmt;
 use std::fmt::{Display, Formatter};
 

@@ -1,12 +1,12 @@
--- Private: the cause that a step's fault is.
+-- The cause that a step's fault is.
 use Rattle.std.specs.Prelude.{Bool, true, false, if◌then◌else◌}
 use Rattle.devices.specs.declared.input.InputFault.{InputFault}
 use Rattle.devices.specs.declared.input.InputFault.TheVariants as input
-use Rattle.catalogue.specs.declared.LoadFault.{LoadFault}
-use Rattle.catalogue.specs.declared.LoadKind.{LoadKind}
-use Rattle.catalogue.specs.declared.LoadKind.TheVariants as load
-use Rattle.msgfmt_tool.specs.declared.outcome.Cause.{Cause}
-use Rattle.msgfmt_tool.specs.declared.outcome.Cause.TheVariants.{CannotRead, Refused, Memory}
+use Rattle.po_checks.specs.declared.fault.LoadFault.{LoadFault}
+use Rattle.po_checks.specs.declared.fault.LoadKind.{LoadKind}
+use Rattle.po_checks.specs.declared.fault.LoadKind.TheVariants as load
+use Rattle.msgfmt_steps.specs.declared.outcome.Cause.{Cause}
+use Rattle.msgfmt_steps.specs.declared.outcome.Cause.TheVariants.{CannotRead, Refused, Memory}
 
 -- of an INPUT that wasn't read
 abbrev pub cause_of_input : InputFault → Cause

@@ -1,10 +1,10 @@
 //! How a run ended.
 ghost use Rattle.std.specs.Prelude.{◌≡◌};
-ghost use Rattle.msgfmt_tool.specs.Causes.{cause_of_input, cause_of_load};
-ghost use Rattle.msgfmt_tool.specs.declared.outcome.Cause.TheVariants.{CannotWrite, Memory};
+ghost use Rattle.msgfmt_steps.specs.Causes.{cause_of_input, cause_of_load};
+ghost use Rattle.msgfmt_steps.specs.declared.outcome.Cause.TheVariants.{CannotWrite, Memory};
 
-use catalogue::{LoadFault, LoadKind};
 use devices::{InputFault, WriteFault};
+use po_checks::{LoadFault, LoadKind};
 use std::alloc::AllocError;
 
 /// Why a run failed.

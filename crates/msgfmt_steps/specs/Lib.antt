@@ -1,0 +1,3 @@
+pub mod RunDevices
+pub mod Causes
+pub mod StepEnds
