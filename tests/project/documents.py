@@ -281,14 +281,14 @@ def warnings_of_the_driver():
     source = read("c/driver/msgfmt_or_gnu.c")
     warning = re.search(r'": (warning: header field \')"', source)
     unwritten = re.search(r'unwritten\[\] = "([^"]*)"', source)
-    code = read("crates/msgfmt_tool/src/texts.rt") + read("crates/msgfmt_tool/src/steps.rt")
+    code = read("crates/msgfmt_steps/src/texts.rt") + read("crates/msgfmt_steps/src/steps.rt")
     return [f"c/driver/msgfmt_or_gnu.c: no text of msgfmt: {found and found[1]}" for found in (warning, unwritten)
             if not found or found[1] not in code]
 
 
 def lines_of_the_command():
     """the lines of the error output"""
-    source = read("crates/msgfmt_tool/src/texts.rt") + read("crates/msgfmt_tool/src/steps.rt")
+    source = read("crates/msgfmt_steps/src/texts.rt") + read("crates/msgfmt_steps/src/steps.rt")
     lines = {re.sub(r" \{\w+\}", "", text) for text in re.findall(r'"(msgfmt: [^"]*)"', source)}
     here = " ".join(read(COMMAND).split())
     found = {re.sub(r" (NAME|FILE|-)$", "", text) for text in re.findall(r"`(msgfmt: [^`]*)`", here)}

@@ -46,10 +46,10 @@ crates/po_checks/src/fault.rt^    FormCount,^    FormNumber,
 crates/po_text/src/fault.rt^"bad escape"^"escape"
 crates/mo_file/src/fault.rt^    NoNul,^    NotClosed,
 crates/script_text/src/fault.rt^#[error("no thread")]^#[error("no threads")]
-crates/msgfmt_tool/src/texts.rt^no input file given^no INPUT
+crates/msgfmt_steps/src/texts.rt^no input file given^no INPUT
 crates/msgfmt_words/src/words.rt^.long("output-file")^.long("output")
 crates/msgfmt_words/src/words.rt^"use-fuzzy", 'f'^"use-fuzzy", 'z'
-crates/msgfmt_tool/src/steps.rt^warning: header field^warning: field
+crates/msgfmt_steps/src/steps.rt^warning: header field^warning: field
 crates/po_header/src/fields.rt^"MIME-Version"^"Mime-Version"
 crates/po_text/src/open.rt^67_108_864^67_108_865
 crates/mo_image/src/layout.rt^268_435_456^268_435_457
