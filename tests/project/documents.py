@@ -297,6 +297,18 @@ def lines_of_the_command():
     return differences(COMMAND, found, lines) + [f"{name} has not: {warning}" for name in lacking]
 
 
+def tabs_of_pages():
+    """after a table, which has tab stops of its own, a man page restores the usual ones before an example with tabs"""
+    wrong = []
+    for path in sorted(TOP.glob("docs/man/*")):
+        before, *examples = re.split(r"^\.EX$", path.read_text(encoding="utf-8"), flags=re.M)
+        for example in examples:
+            if "\n.TE\n" in before and "\n.DT\n" not in before and "\t" in example.partition("\n.EE\n")[0]:
+                wrong.append(f"{path.name}: no .DT before an example with tabs")
+            before += example
+    return wrong
+
+
 def fields_of_a_header():
     """the fields that a header is expected to have"""
     names = re.search(r"FIELD_NAMES.*?=(.*?);", read("crates/po_header/src/fields.rt"), re.S)[1]
@@ -746,6 +758,7 @@ RULES = (
     reasons_of_the_driver,
     warnings_of_the_driver,
     lines_of_the_command,
+    tabs_of_pages,
     fields_of_a_header,
     options,
     options_of_a_session,

@@ -80,6 +80,7 @@ docs/man/msgfmt.1^\-\-no\-hash ]^\-\-nohash ]
 docs/man/msgfmt.1^\-\-verbose^\-\-loud
 docs/man/msgfmt.1^1,000 bytes^1,001 bytes
 docs/man/catserve.1^.B loadmo^.B loadMO
+docs/man/catserve.1^.DT^.PP
 docs/man/catserve.1^8;no thread^7;no thread
 docs/man/catserve.1^16 workers^17 workers
 docs/man/catsession.1^.BI \-\-workers^.BI \-\-threads
