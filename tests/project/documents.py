@@ -32,6 +32,7 @@ DRIVER_PAGE = "docs/man/msgfmt-or-gnu.1"
 LIBRARY_PAGES = sorted(str(path.relative_to(TOP)) for path in TOP.glob("docs/man/*.3"))
 DECISIONS = "docs/internals/decisions/README.md"
 TROUBLES = "docs/guide/troubleshooting.md"
+MIGRATING = "docs/guide/migrating.md"
 DRIVER_OPTIONS = "c/driver/or_gnu_words.c"
 OPTIONS_IN_C = {"kob-compile": "c/compile/options.c", "kob-msgunfmt": "c/unfmt/options.c"}
 HEADER = "include/kobdzila.h"
@@ -198,6 +199,26 @@ def functions_of_the_library():
     listed = set(re.findall(r"^    (kob_\w+);", read("c/library/kobdzila.map"), re.M))
     return (differences("docs/man, the synopses", sorted(re.findall(r"(kob_\w+)\(", synopsis)), sorted(wanted))
             + differences("docs/man", described, wanted) + differences("c/library/kobdzila.map", listed, wanted))
+
+
+def keyword(name, first):
+    """The option of xgettext for a call: its name, and the numbers of its context, msgid and plural from the first."""
+    letters = re.search(r"([np]*)gettext$", name)[1]
+    numbers = [f"{first}c", str(first + 1)] if "p" in letters else [str(first)]
+    numbers += [str(first + len(numbers))] if "n" in letters else []
+    return f"-k{name}" + (f":{','.join(numbers)}" if numbers != ["1"] else "")
+
+
+def keywords_of_xgettext():
+    """the guide has the option of xgettext for each call with a msgid: those of C by the header, and Python's"""
+    code = re.sub(r"/\*.*?\*/", " ", read(HEADER), flags=re.S)
+    calls = re.findall(r"\b(kob_\w*gettext)\(([^;]*?)\b(?:context|msgid)\b", code)
+    wanted = {keyword(name, before.count(",") + 1) for name, before in calls}
+    names = re.findall(r'^    "((?:d|lazy_)?[np]*gettext)",$', read("python/src/kobdzila/__init__.py"), re.M)
+    known = {"gettext", "ngettext", "dgettext", "dngettext"}  # by xgettext
+    wanted |= {keyword(name, 2 if name.startswith("d") else 1) for name in names if name not in known}
+    found = set(re.findall(r"-k\w+[:\w,]*", section(MIGRATING, "Extracting messages"))) - {"-k_", "-kN_"}
+    return differences(MIGRATING, found, wanted)
 
 
 def completed(program, with_value=False):
@@ -752,6 +773,7 @@ RULES = (
     texts_of_kinds,
     faults_of_the_header,
     functions_of_the_library,
+    keywords_of_xgettext,
     options_of_the_driver,
     options_of_the_fleet,
     options_of_programs_in_c,

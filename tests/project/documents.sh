@@ -122,6 +122,8 @@ docs/internals/proofs.md^`run_script` and `run_session`^`run_session`
 docs/index.md^(internals/gate.md)^(internals/releases.md)
 docs/guide/troubleshooting.md^`wrong plural index`^`wrong plural number`
 docs/guide/troubleshooting.md^`map too large`^`map much too large`
+docs/guide/migrating.md^-kkob_languages_ngettext:2,3^-kkob_languages_ngettext:2
+docs/guide/migrating.md^ -klazy_pgettext:1c,2^
 docs/guide/c.md^*For programmers^*By programmers
 docs/internals/benchmarks.md^| 60 MB | ^| 60 MB | 1
 docs/images/publish.svg^version 3^version 4
