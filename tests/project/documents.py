@@ -141,6 +141,20 @@ def texts_of_trouble():
     return [f"{TROUBLES} has not: {missing}"] if missing else []
 
 
+LEAST_LETTERS = 24  # of a part of a message that isn't about a file, an option or memory
+
+
+def texts_of_programs_in_c():
+    """the page of troubles has what msgfmt-or-gnu, kob-compile and kob-msgunfmt say beside what is refused"""
+    page, missing = read(TROUBLES), set()
+    for path in sorted(TOP.glob("c/[cdu]*/*.c")):
+        code = path.read_text(encoding="utf-8")
+        for text in re.findall(r'"(?:msgfmt-or-gnu|kob-compile|kob-msgunfmt): ([^"\\]*)', code):
+            parts = [it.strip(" :(") for it in re.split(r"%\w+", text)]
+            missing |= {it for it in parts if len(it) >= LEAST_LETTERS and it not in page}
+    return [f"{TROUBLES} has not: {sorted(missing)}"] if missing else []
+
+
 def says(text, number, words):
     """A page has this number with these words, in a list or a table."""
     return re.search(rf"(?<![\w,]){number}[ ;:]\s*{re.escape(words)}", text) is not None
@@ -770,6 +784,7 @@ RULES = (
     kinds_of_files,
     kinds_of_scripts,
     texts_of_trouble,
+    texts_of_programs_in_c,
     texts_of_kinds,
     faults_of_the_header,
     functions_of_the_library,

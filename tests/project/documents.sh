@@ -121,6 +121,7 @@ README.md^a refused load changes nothing.^a refused load changes little.
 docs/internals/proofs.md^`run_script` and `run_session`^`run_session`
 docs/index.md^(internals/gate.md)^(internals/releases.md)
 docs/guide/troubleshooting.md^`wrong plural index`^`wrong plural number`
+docs/guide/troubleshooting.md^no PO file found; name^no PO file found: name
 docs/guide/troubleshooting.md^`map too large`^`map much too large`
 docs/guide/migrating.md^-kkob_languages_ngettext:2,3^-kkob_languages_ngettext:2
 docs/guide/migrating.md^ -klazy_pgettext:1c,2^
