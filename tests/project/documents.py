@@ -7,6 +7,7 @@ limits with the code. Prints a line `ok documents: NAME` or `FAILED documents: N
 FOLDER is the top of the repository. MSGFMT and CATSESSION are the built programs, whose help is then looked at as well.
 """
 import argparse
+import gzip
 import importlib
 import re
 import subprocess
@@ -37,6 +38,7 @@ DRIVER_OPTIONS = "c/driver/or_gnu_words.c"
 OPTIONS_IN_C = {"kob-compile": "c/compile/options.c", "kob-msgunfmt": "c/unfmt/options.c"}
 HEADER = "include/kobdzila.h"
 COMPLETION = "tools/completion/words"
+MANUAL = Path("/usr/share/info/gettext.info.gz")  # of GNU gettext, in Debian's package of that name
 LEAST_LIMIT = 20_000_000  # a number of the documents from here on is one of the limits
 
 
@@ -350,6 +352,19 @@ def fields_of_a_header():
     wanted = re.findall(r'"([\w-]+)"', names)
     listed = re.search(r"expected to have are, in this order:(.*?)\.\n", read(HEADERS), re.S)[1]
     return differences(HEADERS, re.findall(r"`([\w-]+)`", listed), wanted)
+
+
+def parts_of_the_manual():
+    """what the reference cites of the GNU gettext manual for a format is the part about its flag"""
+    if not MANUAL.exists():
+        return []
+    manual = gzip.decompress(MANUAL.read_bytes()).decode()
+    titles = dict(re.findall(r"^File: .*Node: ([a-z-]+-format),.*\n\n[\d.]+ (.+)$", manual, re.M))
+    cited = [(row[0].strip("`"), row[4].strip('"')) for row in rows(read("docs/reference/formats.md")) if len(row) > 4]
+    for path in sorted(TOP.glob("docs/reference/*.md")):
+        text = " ".join(path.read_text(encoding="utf-8").split())
+        cited += re.findall(r'A text flagged `([\w-]+)` .{,150}?GNU gettext manual, "([^"]+)"', text)
+    return [f"{flag} has {titles[flag]!r} and not {it!r}" for flag, it in cited if it != titles.get(flag, it)]
 
 
 def options_of_the_code():
@@ -797,6 +812,7 @@ RULES = (
     lines_of_the_command,
     tabs_of_pages,
     fields_of_a_header,
+    parts_of_the_manual,
     options,
     options_of_a_session,
     faults_of_a_session,

@@ -138,3 +138,7 @@ tests/README.md^`crates/live_set` to `crates/catserve`,^`crates/live_set` to `cr
 docs/internals/crates/po.md^`Lexing`, ^
 CONTRIBUTING.md^in one document, and the others link to it. How to do something^in one document and in no more than this one, and the others link to it, and how to do something
 END
+# (the manual of GNU gettext is in its package, and left out of some containers)
+if [ -f /usr/share/info/gettext.info.gz ]; then
+  changes docs/reference/formats-compiled.md '"Boost Format Strings"' '"Boost Formats"'
+fi
