@@ -15,7 +15,9 @@ import sys
 import types
 from pathlib import Path
 
-TOP = Path(sys.argv[1] if len(sys.argv) > 1 else ".")
+from document_text import (
+    TOP, anchors, differences, links, page, pages, paragraphs, plain, prose, read, rows, section)
+
 PROGRAM = sys.argv[2] if len(sys.argv) > 2 else None
 SESSION = sys.argv[3] if len(sys.argv) > 3 else None
 PO = "docs/reference/po.md"
@@ -42,22 +44,6 @@ MANUAL = Path("/usr/share/info/gettext.info.gz")  # of GNU gettext, in Debian's 
 LEAST_LIMIT = 20_000_000  # a number of the documents from here on is one of the limits
 
 
-def read(name):
-    return (TOP / name).read_text(encoding="utf-8")
-
-
-def page(name):
-    """A man page as plain words: without requests, fonts and line ends."""
-    text = re.sub(r'^\.[A-Z]+ ?', "", read(name), flags=re.M).replace("\\-", "-")
-    return " ".join(re.sub(r'\\f[A-Z]|"', "", text).split())
-
-
-def section(name, title):
-    """A part of a page of Markdown, from its heading to the next one."""
-    found = re.search(rf"^## {re.escape(title)}$(.*?)(?=^## |\Z)", read(name), re.M | re.S)
-    return found[1] if found else ""
-
-
 def variants(path, enum):
     """The variants of an enum of faults: each name with its text, which is an attribute or the arm of a match."""
     code = read(path)
@@ -73,21 +59,6 @@ def kinds(path, enum):
     """The variants with their numbers, from 1, without running out of memory: {number: (name, text)}."""
     found = [(name, text) for text, name in variants(path, enum) if name != "Memory"]
     return dict(enumerate(found, 1))
-
-
-def rows(text):
-    """The cells of each row of the tables in a text of Markdown."""
-    lines = [line for line in text.splitlines() if line.startswith("|")]
-    return [[cell.strip() for cell in line.strip("|").split(" | ")] for line in lines]
-
-
-def differences(what, found, wanted):
-    """Nothing where two sets or lists are the same, else why not."""
-    if found == wanted:
-        return []
-    if isinstance(found, (set, frozenset)):
-        return [f"{what}: too many {sorted(found - wanted)}, missing {sorted(wanted - found)}"]
-    return [f"{what}: {found}, and the code has {wanted}"]
 
 
 LOADS = ("crates/po_checks/src/fault.rt", "LoadKind")
@@ -502,34 +473,6 @@ def limits():
     return wrong
 
 
-def plain(name):
-    return page(name) if name.endswith((".1", ".3")) else " ".join(read(name).split())
-
-
-def pages():
-    """All pages of Markdown."""
-    return sorted([*TOP.glob("*.md"), *TOP.glob(".github/*.md"), *TOP.glob("docs/**/*.md")])
-
-
-def prose(text):
-    """A text of Markdown without its programs."""
-    return re.sub(r"^```.*?^```$", "", text, flags=re.M | re.S)
-
-
-def anchors(text):
-    """What a link to a page may name after `#`: its headings as web pages spell them, and its own anchors."""
-    heads = re.findall(r"^#+ (.*)$", prose(text), re.M)
-    spelled = {re.sub(r"[^\w\- ]", "", head.lower()).replace(" ", "-") for head in heads}
-    return spelled | set(re.findall(r'<a id="([\w-]+)">', text))
-
-
-def links(path):
-    """The places that a page links to: each with its file and what follows `#`."""
-    for it in re.findall(r"\]\(([^)\s:]+)\)", prose(path.read_text(encoding="utf-8"))):
-        name, _, anchor = it.partition("#")
-        yield it, (path.parent / name).resolve() if name else path.resolve(), anchor
-
-
 def links_lead_somewhere():
     """each link leads to a file, and to a heading of it"""
     wrong = []
@@ -753,25 +696,6 @@ def functions_that_wait():
 MOST_WORDS = 35  # of a sentence
 
 
-def paragraphs(text):
-    """The paragraphs and items of a text of Markdown with their lines; no headings, tables, programs or quotations."""
-    found, words, first, in_program = [], [], 0, False
-    for number, line in enumerate([*text.split("\n"), ""], 1):
-        bare = re.sub(r"<!--.*?-->", "", line).strip()
-        if bare.startswith("```"):
-            in_program, bare = not in_program, ""
-        if in_program or line.startswith("    ") or bare.startswith(("|", "#", ">")):
-            bare = ""
-        item = re.match(r"(?:[-*]|\d+\.) ", bare)
-        if words and (not bare or item):
-            found.append((first, " ".join(words)))
-            words = []
-        if bare:
-            first = first if words else number
-            words.append(bare[item.end() :] if item else bare)
-    return found
-
-
 def sentences():
     """no sentence has more than 35 words"""
     end = re.compile(r'(?:(?<=[.!?])|(?<=[.!?]\*\*)|(?<=[.!?][)"]))\s+(?=[^a-z])')
@@ -792,6 +716,16 @@ def reports_can_arrive():
     if not re.search(r"^\| within .* \| an answer", text, re.MULTILINE):
         wrong.append("it doesn't say when we answer")
     return wrong
+
+
+def lines_of_c():
+    """SECURITY.md says how many lines of C there are, to a twentieth"""
+    parts = (("c/library", "c/machine", "c/intl"), ("c/driver", "c/compile", "c/unfmt"), ("python/src",))
+    told = [int(it.replace(",", "")) for it in re.findall(r"about ([\d,]+) lines", " ".join(read("SECURITY.md").split()))]
+    files = [[path for folder in folders for path in (TOP / folder).glob("*.[ch]")] for folders in parts]
+    counts = [sum(len(path.read_text(encoding="utf-8").splitlines()) for path in part) for part in files]
+    close = len(told) == len(counts) and all(abs(it - count) * 20 <= count for it, count in zip(told, counts))
+    return [] if close else differences("SECURITY.md", told, counts)
 
 
 RULES = (
@@ -837,6 +771,7 @@ RULES = (
     functions_that_wait,
     sentences,
     reports_can_arrive,
+    lines_of_c,
 )
 
 

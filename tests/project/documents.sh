@@ -107,6 +107,7 @@ c/unfmt/options.c^{"no-wrap",^{"nowrap",
 c/compile/options.c^--no-gnu  ^--only-us 
 c/driver/msgfmt_or_gnu.c^warning: header field^warning: field
 c/driver/or_gnu_text.c^"an obsolete duplicate"^"an obsolete double"
+SECURITY.md^about 4,000 lines^about 3,500 lines
 README.md^(docs/guide/rattle.md)^(docs/guide/rattles.md)
 docs/reference/po.md^(headers.md)^(headers.md#headings)
 docs/reference/po.md^(c-formats.md)^(../guide/c.md)
