@@ -175,17 +175,19 @@ def faults_of_the_header():
 
 
 def functions_of_the_library():
-    """the functions of the C library: header, the man page whose synopsis has each, version script"""
+    """the functions of the C library: header, man page whose synopsis has each, version script; no page names others"""
     code = re.sub(r"/\*.*?\*/", " ", read(HEADER), flags=re.S)
     wanted = set(re.findall(r"\b(kob_\w+)\(", code))
-    pages = [read(name).split(".SH DESCRIPTION") for name in LIBRARY_PAGES]
-    synopsis, text = ("".join(parts) for parts in zip(*pages))
+    synopsis, text = ("".join(parts) for parts in zip(*(read(name).split(".SH DESCRIPTION") for name in LIBRARY_PAGES)))
     described = {it for it in re.findall(r"\bkob_\w+", text) if it in wanted}
     # (the look-ups in a set are described as those in a catalogue)
     described |= {it for it in wanted if it.startswith("kob_set_") and it.replace("_set_", "_") in described}
     listed = set(re.findall(r"^    (kob_\w+);", read("c/library/kobdzila.map"), re.M))
+    named = {it for path in pages() for it in re.findall(r"\bkob_\w+", path.read_text(encoding="utf-8"))}
+    strange = sorted(named - set(re.findall(r"\bkob_\w+", read(HEADER) + read("examples/cmake/KobCompile.cmake"))))
     return (differences("docs/man, the synopses", sorted(re.findall(r"(kob_\w+)\(", synopsis)), sorted(wanted))
-            + differences("docs/man", described, wanted) + differences("c/library/kobdzila.map", listed, wanted))
+            + differences("docs/man", described, wanted) + differences("c/library/kobdzila.map", listed, wanted)
+            + [f"{HEADER} has no {it}" for it in strange])
 
 
 def keyword(name, first):

@@ -115,6 +115,7 @@ docs/guide/catsession.md^67,108,864^67,108,863
 docs/internals/questions.md^[python.md](../guide/python.md), ^
 docs/man/kobdzila.3^268,435,456^268,435,455
 docs/man/kob_store.3^.B kob_store_retained^.B kob_store_kept
+docs/internals/crates/c-library.md^`kobdzila_reader_is_current`^`kob_reader_is_current`
 docs/man/kob_store.3^.BI "kob_reader *kob_store_reader(^.BI "kob_reader *kob_reader_new(
 c/library/kobdzila.map^    kob_reader_free;^
 docs/images/snapshot.svg^version 7^version 9
