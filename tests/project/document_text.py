@@ -1,5 +1,5 @@
-"""How the rules of documents.py read a page: its sections, tables, links and paragraphs, in the folder of the command
-line.
+"""How the rules of documents.py read a page: its sections, tables, links, paragraphs and pictures, in the folder of the
+command line.
 """
 import re
 import sys
@@ -84,3 +84,12 @@ def paragraphs(text):
             first = first if words else number
             words.append(bare[item.end() :] if item else bare)
     return found
+
+
+def boxes_outside(path):
+    """The boxes of a picture that its edge cuts off."""
+    text = path.read_text(encoding="utf-8")
+    width, height = map(float, re.search(r'viewBox="0 0 ([\d.]+) ([\d.]+)"', text).groups())
+    boxes = re.findall(r'<rect [^>]*\bx="(-?[\d.]+)" y="(-?[\d.]+)" width="([\d.]+)" height="([\d.]+)"', text)
+    return [it for it in boxes for x, y, wide, high in [map(float, it)]
+            if x < 0 or y < 0 or x + wide > width or y + high > height]

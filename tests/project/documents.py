@@ -16,7 +16,7 @@ import types
 from pathlib import Path
 
 from document_text import (
-    TOP, anchors, differences, links, page, pages, paragraphs, plain, prose, read, rows, section)
+    TOP, anchors, boxes_outside, differences, links, page, pages, paragraphs, plain, prose, read, rows, section)
 
 PROGRAM = sys.argv[2] if len(sys.argv) > 2 else None
 SESSION = sys.argv[3] if len(sys.argv) > 3 else None
@@ -564,9 +564,10 @@ def places():
 
 
 def pictures():
-    """each picture is what tools/pictures draws"""
+    """each picture is what tools/pictures draws, and none is cut off at its edges"""
     run = subprocess.run([TOP / "tools/pictures", "--check"], capture_output=True, text=True, check=False)
-    return [*run.stdout.splitlines(), *run.stderr.splitlines()[-1:]]
+    cut = [f"{path.name} cuts off {boxes}" for path in sorted(TOP.glob("docs/images/*.svg")) if (boxes := boxes_outside(path))]
+    return [*run.stdout.splitlines(), *run.stderr.splitlines()[-1:], *cut]
 
 
 def glossary():

@@ -119,6 +119,7 @@ docs/internals/crates/c-library.md^`kobdzila_reader_is_current`^`kob_reader_is_c
 docs/man/kob_store.3^.BI "kob_reader *kob_store_reader(^.BI "kob_reader *kob_reader_new(
 c/library/kobdzila.map^    kob_reader_free;^
 docs/images/snapshot.svg^version 7^version 9
+docs/images/crates.svg^<rect class="box" x="^<rect class="box" x="-
 README.md^a refused load changes nothing.^a refused load changes little.
 docs/internals/proofs.md^`run_script` and `run_session`^`run_session`
 docs/index.md^(internals/gate.md)^(internals/releases.md)
