@@ -15,8 +15,11 @@ import sys
 import types
 from pathlib import Path
 
+from document_programs import (
+    COMPLETION, DRIVER_PAGE, TROUBLES, completed, options_in, options_of_programs_in_c, options_of_the_driver,
+    reasons_of_the_driver, texts_of_programs_in_c, variables_of_the_environment, warnings_of_the_driver)
 from document_text import (
-    TOP, anchors, boxes_outside, differences, links, page, pages, paragraphs, plain, prose, read, rows, section)
+    TOP, anchors, boxes_outside, differences, links, page, pages, paragraphs, plain, read, rows, section)
 
 PROGRAM = sys.argv[2] if len(sys.argv) > 2 else None
 SESSION = sys.argv[3] if len(sys.argv) > 3 else None
@@ -31,15 +34,10 @@ CRATES = "docs/internals/crates/*.md"
 MSGFMT_PAGE = "docs/man/msgfmt.1"
 CATSERVE_PAGE = "docs/man/catserve.1"
 SESSION_PAGE = "docs/man/catsession.1"
-DRIVER_PAGE = "docs/man/msgfmt-or-gnu.1"
 LIBRARY_PAGES = sorted(str(path.relative_to(TOP)) for path in TOP.glob("docs/man/*.3"))
 DECISIONS = "docs/internals/decisions/README.md"
-TROUBLES = "docs/guide/troubleshooting.md"
 MIGRATING = "docs/guide/migrating.md"
-DRIVER_OPTIONS = "c/driver/or_gnu_words.c"
-OPTIONS_IN_C = {"kob-compile": "c/compile/options.c", "kob-msgunfmt": "c/unfmt/options.c"}
 HEADER = "include/kobdzila.h"
-COMPLETION = "tools/completion/words"
 MANUAL = Path("/usr/share/info/gettext.info.gz")  # of GNU gettext, in Debian's package of that name
 LEAST_LIMIT = 20_000_000  # a number of the documents from here on is one of the limits
 
@@ -112,20 +110,6 @@ def texts_of_trouble():
     page = read(TROUBLES)
     missing = sorted(it for it in texts if f"`{it}" not in page)
     return [f"{TROUBLES} has not: {missing}"] if missing else []
-
-
-LEAST_LETTERS = 24  # of a part of a message that isn't about a file, an option or memory
-
-
-def texts_of_programs_in_c():
-    """the page of troubles has what msgfmt-or-gnu, kob-compile and kob-msgunfmt say beside what is refused"""
-    page, missing = read(TROUBLES), set()
-    for path in sorted(TOP.glob("c/[cdu]*/*.c")):
-        code = path.read_text(encoding="utf-8")
-        for text in re.findall(r'"(?:msgfmt-or-gnu|kob-compile|kob-msgunfmt): ([^"\\]*)', code):
-            parts = [it.strip(" :(") for it in re.split(r"%\w+", text)]
-            missing |= {it for it in parts if len(it) >= LEAST_LETTERS and it not in page}
-    return [f"{TROUBLES} has not: {sorted(missing)}"] if missing else []
 
 
 def says(text, number, words):
@@ -210,29 +194,6 @@ def keywords_of_xgettext():
     return differences(MIGRATING, found, wanted)
 
 
-def completed(program, with_value=False):
-    """The options of a program that shells complete, all of them or those with a value."""
-    lines = re.search(rf"^@?{program}:.*\n((?:-.*\n)+)", read(COMPLETION), re.M)[1].splitlines()
-    words = [line.partition("  ")[0] for line in lines]
-    return {option for it in words if not with_value or re.search(r"[=A-Z{]", re.sub(r"-\w\b", "", it))
-            for option in options_in(it)}
-
-
-def options_of_the_driver():
-    """the options of GNU msgfmt that msgfmt-or-gnu knows: code, man page, completions"""
-    code = read(DRIVER_OPTIONS)
-    wanted = {f"--{name}" for name in re.findall(r'^    \{"([a-z0-9-]+)",', code, re.M)}
-    wanted |= {f"-{letter}" for letter in re.search(r'letters\[\] = "([^"]*)"', code)[1] if letter != ":"}
-    table = re.search(r"^option of GNU msgfmt.*?^\.TE$", read(DRIVER_PAGE), re.M | re.S)[0].replace("\\-", "-")
-    by_letters = {"--language", "--locale", "--resource", "--properties-input"}  # as the page names them
-    in_page = options_in(re.sub(r"\\f[A-Z]", " ", table))
-    with_value = {f"--{name}" for name in re.findall(r'^    \{"([a-z0-9-]+)", (?:required|optional)_', code, re.M)}
-    with_value |= {f"-{letter}" for letter in re.findall(r"([a-zA-Z]):", re.search(r'letters\[\] = "([^"]*)"', code)[1])}
-    return (differences(DRIVER_PAGE, in_page | by_letters, wanted)
-            + differences(f"{COMPLETION}, msgfmt-or-gnu", completed("msgfmt-or-gnu") - {"--summary"}, wanted)
-            + differences(f"{COMPLETION}, msgfmt-or-gnu, values", completed("msgfmt-or-gnu", True) - {"--summary"}, with_value))
-
-
 def parser_of_the_fleet():
     """The parser of kob-fleet, without the package around it, which needs its extension."""
     for name in ("kobdzila", "kobdzila.fleet"):
@@ -253,47 +214,6 @@ def options_of_the_fleet():
             wanted = {option for it in own._actions for option in it.option_strings if it.nargs != 0 or not with_value}
             found += differences(f"{COMPLETION}, {name}", completed(name, with_value), wanted)
     return found
-
-
-def options_in_c(program):
-    """The differences between the options of a program in C: code, help, man page, completions."""
-    code, page_name = read(OPTIONS_IN_C[program]), f"docs/man/{program}.1"
-    wanted = {f"--{name}" for name in re.findall(r'^    \{"([a-z-]+)", (?!.*FOR_GNU)', code, re.M)}
-    wanted |= {f"-{letter}" for letter in re.search(r'getopt_long\(count, words, "([^"]*)"', code)[1] if letter != ":"}
-    told = re.search(r"help\[\] =\n(.*?);\n\n", code, re.S)[1]
-    heads = re.findall(r'^    "  +(-.*?)(?:  |\\n)', told, re.M)
-    manual = re.search(r"^\.SH OPTIONS\n(.*?)^\.SH ", read(page_name), re.M | re.S)[1].replace("\\-", "-")
-    in_page = re.sub(r"\\f[A-Z]", "", " ".join(re.findall(r"^\.TP\n\.BI?R? (.*)$", manual, re.M))).replace('"', " ")
-    found = [(f"{OPTIONS_IN_C[program]}, its help", " ".join(heads)), (page_name, in_page)]
-    letters = re.search(r'getopt_long\(count, words, "([^"]*)"', code)[1]
-    with_value = {f"--{name}" for name in re.findall(r'^    \{"([a-z-]+)", required_', code, re.M)}
-    with_value |= {f"-{letter}" for letter in re.findall(r"([a-zA-Z]):", letters)}
-    return ([why for name, text in found for why in differences(name, options_in(text), wanted)]
-            + differences(f"{COMPLETION}, {program}", completed(program), wanted)
-            + differences(f"{COMPLETION}, {program}, values", completed(program, True), with_value))
-
-
-def options_of_programs_in_c():
-    """the options of kob-compile and kob-msgunfmt: code, help, man page, completions"""
-    return [why for program in OPTIONS_IN_C for why in options_in_c(program)]
-
-
-def reasons_of_the_driver():
-    """the reasons for which msgfmt-or-gnu leaves a text to GNU msgfmt are in its man page"""
-    # (one without a blank is a flag, such as objc-format)
-    reasons = re.findall(r'needs_gnu_for\(&?scan, "([^"]* [^"]*)"\)', read("c/driver/or_gnu_text.c"))
-    missing = sorted(it for it in reasons if it not in page(DRIVER_PAGE))
-    return [f"{DRIVER_PAGE} has not: {missing}"] if missing or not reasons else []
-
-
-def warnings_of_the_driver():
-    """the lines of msgfmt that msgfmt-or-gnu looks for"""
-    source = read("c/driver/msgfmt_or_gnu.c")
-    warning = re.search(r'": (warning: header field \')"', source)
-    unwritten = re.search(r'unwritten\[\] = "([^"]*)"', source)
-    code = read("crates/msgfmt_steps/src/texts.rt") + read("crates/msgfmt_steps/src/steps.rt")
-    return [f"c/driver/msgfmt_or_gnu.c: no text of msgfmt: {found and found[1]}" for found in (warning, unwritten)
-            if not found or found[1] not in code]
 
 
 def lines_of_the_command():
@@ -351,10 +271,6 @@ def options_of_the_code():
 
 def help_of(program):
     return subprocess.run([program, "--help"], capture_output=True, text=True, check=False).stdout
-
-
-def options_in(text):
-    return set(re.findall(r"(?<![\w-])(--?[A-Za-z][\w-]*)", text))
 
 
 def options():
@@ -746,6 +662,7 @@ RULES = (
     options_of_programs_in_c,
     reasons_of_the_driver,
     warnings_of_the_driver,
+    variables_of_the_environment,
     lines_of_the_command,
     tabs_of_pages,
     fields_of_a_header,

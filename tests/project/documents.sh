@@ -88,6 +88,7 @@ docs/man/catsession.1^round too large;^round is too large;
 docs/man/catsession.1^an MO file 268,435,456^an MO file 268,435,455
 docs/man/catsession.1^threads, 1 to 16;^threads, 1 to 17;
 docs/man/msgfmt-or-gnu.1^\-\-tcl^\-\-tk
+docs/man/libkobdzila-intl.3^.B OUTPUT_CHARSET^.B OUTPUT_CODESET
 docs/man/kob-compile.1^.BI \-\-sarif^.BI \-\-log
 docs/man/kob-msgunfmt.1^.B \-\-no\-wrap^.B \-\-nowrap
 tools/completion/words^--use-fuzzy^--fuzzy
