@@ -593,6 +593,24 @@ def names_in_readmes():
     return wrong
 
 
+SOURCES = ("crates", "c", "include", "python", "rust", "tests", "tools", "bench", "fuzz", "examples", "packaging")
+APART = {"out", "target", "corpus", "documents.sh"}  # what was made, and the test of this file
+NAMES_OF_OTHERS = {"for_each_mut", "linux_x86_64"}  # the kit's and pip's
+
+
+def names_in_internals():
+    """each name with `_` in backquotes in docs/internals is in the sources"""
+    known, wrong = set(NAMES_OF_OTHERS), []
+    for path in (path for folder in SOURCES for path in (TOP / folder).rglob("*") if not APART & set(path.parts)):
+        known.update((path.name, path.stem))
+        if path.is_file():
+            known.update(re.findall(r"\w+_\w+", path.read_text(encoding="utf-8", errors="replace")))
+    for path in sorted(TOP.glob("docs/internals/**/*.md")):
+        for it in re.findall(r"`([^`\s]+)`", path.read_text(encoding="utf-8")):
+            wrong += [f"{path.name}: {name}" for name in re.findall(r"(?<![\w.])[a-z]\w*_\w+", it) if name not in known]
+    return wrong
+
+
 def promise():
     """each page that quotes the promise quotes it word for word"""
     quoted = {str(path.relative_to(TOP)): " ".join(words.replace("\n>", " ").split()) for path in pages()
@@ -687,6 +705,7 @@ RULES = (
     definitions_are_listed,
     crates_have_readmes,
     names_in_readmes,
+    names_in_internals,
     promise,
     functions_that_wait,
     sentences,

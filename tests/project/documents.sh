@@ -140,6 +140,7 @@ crates.txt^po_text: format_flags^po_words: format_flags
 tests/README.md^, `fuzz/` |^ |
 tests/README.md^`crates/live_set` to `crates/catserve`,^`crates/live_set` to `crates/desks`,
 docs/internals/crates/po.md^`Lexing`, ^
+docs/internals/decisions/lives/after-a-fault-no-history-is-claimed-for-the-readers.md^`stop_keeps`^`stop_holds`
 CONTRIBUTING.md^in one document, and the others link to it. How to do something^in one document and in no more than this one, and the others link to it, and how to do something
 END
 # (the manual of GNU gettext is in its package, and left out of some containers)
