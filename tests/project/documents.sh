@@ -113,7 +113,7 @@ README.md^(docs/guide/rattle.md)^(docs/guide/rattles.md)
 docs/reference/po.md^(headers.md)^(headers.md#headings)
 docs/reference/po.md^(c-formats.md)^(../guide/c.md)
 docs/guide/catsession.md^67,108,864^67,108,863
-docs/internals/questions.md^[python.md](../guide/python.md), ^
+docs/internals/questions.md^[index.md](../index.md), ^
 docs/man/kobdzila.3^268,435,456^268,435,455
 docs/man/kob_store.3^.B kob_store_retained^.B kob_store_kept
 docs/internals/crates/c-library.md^`kobdzila_reader_is_current`^`kob_reader_is_current`
