@@ -145,8 +145,8 @@ kob_catalogue *kob_open_po(const void *bytes, size_t len, unsigned options, kob_
  *
  * A regular file is read up to the size that it has when it is opened. A FIFO, a device and the like are read to their
  * end, up to the size limit of the format; a FIFO that nobody has open for writing counts as empty. A regular PO file
- * that isn't UTF-8, or has macros or the flag `I`, is read twice. The file is opened once, with O_CLOEXEC. This function and kob_set_open aren't cancellation points: a thread that is cancelled meanwhile
- * finishes the call first. */
+ * that isn't UTF-8, or has macros or the flag `I`, is read twice. The file is opened once, with O_CLOEXEC. This function
+ * and kob_set_open aren't cancellation points: a thread that is cancelled meanwhile finishes the call first. */
 kob_catalogue *kob_open_file(const char *name, enum kob_kind kind, unsigned options, kob_refusal *why);
 
 /* Take another reference to `catalogue` and return it. */

@@ -479,6 +479,13 @@ def places():
     return wrong
 
 
+def examples_are_shown():
+    """a guide, the README or a man page names each example"""
+    text = "".join(read(path) for path in ("README.md", *(it.relative_to(TOP) for it in TOP.glob("docs/[gm]*/*"))))
+    missing = [path.name for path in sorted((TOP / "examples").iterdir()) if f"examples/{path.stem}" not in text]
+    return [f"no page has examples/{it}" for it in missing]
+
+
 def pictures():
     """each picture is what tools/pictures draws, and none is cut off at its edges"""
     run = subprocess.run([TOP / "tools/pictures", "--check"], capture_output=True, text=True, check=False)
@@ -697,6 +704,7 @@ RULES = (
     pages_say_for_whom,
     reference_stands_alone,
     places,
+    examples_are_shown,
     glossary,
     pictures,
     names_of_pages,

@@ -129,6 +129,7 @@ docs/guide/troubleshooting.md^no PO file found; name^no PO file found: name
 docs/guide/troubleshooting.md^`map too large`^`map much too large`
 docs/guide/migrating.md^-kkob_languages_ngettext:2,3^-kkob_languages_ngettext:2
 docs/guide/migrating.md^ -klazy_pgettext:1c,2^
+docs/guide/python-frameworks.md^[examples/fastapi](../../examples/fastapi/shop.py)^It
 docs/guide/c.md^*For programmers^*By programmers
 docs/internals/benchmarks.md^| 60 MB | ^| 60 MB | 1
 docs/images/publish.svg^version 3^version 4
