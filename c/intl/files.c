@@ -28,13 +28,14 @@ static struct stamp stamp_of(const char *name) {
     struct stat s;
     if (!file_status(AT_FDCWD, name, &s))
         return (struct stamp){ 0 };
-    return (struct stamp){ s.st_dev, s.st_ino, (uint64_t)s.st_size, (uint64_t)s.st_mtim.tv_sec,
-                           (uint64_t)s.st_mtim.tv_nsec };
+    return (struct stamp){ s.st_dev, s.st_ino, (uint64_t)s.st_size, s.st_mtim, s.st_ctim };
 }
 
+static int is_same_time(struct timespec a, struct timespec b) { return a.tv_sec == b.tv_sec && a.tv_nsec == b.tv_nsec; }
+
 static int is_same(struct stamp a, struct stamp b) {
-    return a.device == b.device && a.inode == b.inode && a.size == b.size && a.seconds == b.seconds &&
-           a.nanoseconds == b.nanoseconds;
+    return a.device == b.device && a.inode == b.inode && a.size == b.size && is_same_time(a.written, b.written) &&
+           is_same_time(a.changed, b.changed);
 }
 
 /* Open the file. UNREAD if that can be done at another time. */

@@ -8,6 +8,7 @@
 #include <signal.h>
 #include <stddef.h>
 #include <stdint.h>
+#include <time.h>
 
 #define SHOWN __attribute__((visibility("default")))
 
@@ -147,9 +148,11 @@ enum standing {
     MISSING, /* there is no such file, or it is no catalogue */
     TAKEN    /* a catalogue */
 };
-/* Which file it was; all 0 if there was none. */
+/* Which file it was; all 0 if there was none. The time when it was written may be set, as `cp -p` does, and stays if the
+ * file's mode changes so that it can be read. That of its last change of any kind moves then. */
 struct stamp {
-    uint64_t device, inode, size, seconds, nanoseconds;
+    uint64_t device, inode, size;
+    struct timespec written, changed;
 };
 
 #define MOST_CHARSET 64

@@ -14,6 +14,7 @@
  *   user                      prints the effective user's number
  *   descriptors N             leaves the program N file descriptors
  *   put FROM TO               makes TO a link to the file FROM, in place of the file that it is
+ *   rewrite FROM TO           writes the bytes of FROM over TO in place, and puts its modification time back
  *   remove FILE
  *   ask DOMAIN MSGID          dgettext; gettext for the domain `-`
  *   plural DOMAIN N           dngettext of `file` and `files`
@@ -32,6 +33,7 @@
 #include <stdlib.h>
 #include <string.h>
 #include <sys/resource.h>
+#include <sys/stat.h>
 #include <unistd.h>
 
 static void print(const char *text) {
@@ -69,6 +71,23 @@ static void put(const char *from, const char *to) {
     if (link(from, new) || rename(new, to))
         exit(3);
     unlink(new);
+}
+
+/* (At once the time of the change would be that of the last one, for a clock that ticks.) */
+static void rewrite(const char *from, const char *to) {
+    char bytes[4096];
+    struct stat before;
+    FILE *in = fopen(from, "r"), *out = fopen(to, "r+");
+    usleep(50000);
+    if (!in || !out || fstat(fileno(out), &before))
+        exit(3);
+    size_t len = fread(bytes, 1, sizeof bytes, in);
+    const struct timespec times[] = { before.st_atim, before.st_mtim };
+    if ((off_t)len != before.st_size || fwrite(bytes, 1, len, out) != len || fflush(out) ||
+        futimens(fileno(out), times))
+        exit(3);
+    fclose(in);
+    fclose(out);
 }
 
 static const char *first;
@@ -129,6 +148,8 @@ static char **step(char **words) {
         return print(THRICE(dcgettext(b, words[3], atoi(a)))), words + 4;
     if (!strcmp(what, "put"))
         return put(a, b), words + 3;
+    if (!strcmp(what, "rewrite"))
+        return rewrite(a, b), words + 3;
     if (!strcmp(what, "remove"))
         return unlink(a), words + 2;
     if (!strcmp(what, "first"))

@@ -250,12 +250,17 @@ def changes(folder: Path) -> list[Case]:
 def replaced_files(folder: Path) -> list[Case]:
     """A catalogue's file is replaced, spoiled, removed or made while the program runs: it is looked at when a folder
     was bound to the domain once more. docs/internals/decisions/intl/differences-from-glibc.md has the row."""
-    one, two, bad, place = (folder / name for name in ("one.mo", "two.mo", "bad.mo", "fr/LC_MESSAGES/new.mo"))
+    one, two, six, bad = (folder / f"{name}.mo" for name in ("one", "two", "six", "bad"))
+    place = folder / "fr/LC_MESSAGES/new.mo"
     one.write_bytes(mo({b"a": b"one"}))
+    six.write_bytes(mo({b"a": b"six"}))
     two.write_bytes(mo({b"a": b"two", b"b": b"b of two"}))
     bad.write_bytes(one.read_bytes()[:40])
     install(folder, "fr", "accent", mo({b"a": "é".encode()}))
+    install(folder, "fr", "copied", one.read_bytes())
+    copied = str(folder / "fr/LC_MESSAGES/copied.mo")
     bind, ask, accent = ["bind", "new", str(folder)], ["ask", "new", "a"], ["ask", "accent", "a"]
+    bind_copied, ask_copied = ["bind", "copied", str(folder)], ["ask", "copied", "a"]
     begin = ["put", str(one), str(place), *bind, *ask]
     bound = f"{folder} 77"
     french = {"LANGUAGE": "fr"}
@@ -272,6 +277,8 @@ def replaced_files(folder: Path) -> list[Case]:
              french, [bound, "one 77", bound, "one 77", "one 77", "two 77"]),
         Case([*begin, *["put", str(two), str(place), *bind, *ask, "put", str(one), str(place), *bind, *ask] * 20, "first"],
              french, [bound, "one 77", *[bound, "two 77", bound, "one 77"] * 20, "one 77"]),
+        Case(["rewrite", str(one), copied, *bind_copied, *ask_copied, "rewrite", str(six), copied, *ask_copied,
+              *bind_copied, *ask_copied, "first"], french, [bound, "one 77", "one 77", bound, "six 77", "one 77"]),
         Case(["bind", "accent", str(folder), *accent, "env", "OUTPUT_CHARSET", "ISO-8859-1", *accent,
               "env", "OUTPUT_CHARSET", "", *accent], french,
              [bound, "\\xc3\\xa9 77", "\\xe9 77", "\\xc3\\xa9 77"]),
