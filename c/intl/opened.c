@@ -1,6 +1,7 @@
-/* The catalogue of an MO file's bytes. Most are opened by libkobdzila, which decodes most charsets. Some of those
- * that it refuses the C library reads: in other charsets, of later revisions, with odd forms. Of these a file is made that
- * libkobdzila takes, so that no catalogue is ever shown to the C library, which trusts its files. */
+/* The catalogue of an MO file's bytes. Most are opened by libkobdzila, which decodes most charsets. Some of those that
+ * it refuses the C library reads: in other charsets, of later revisions, with odd forms, with keys out of order. Of
+ * these a file is made that libkobdzila takes, so that no catalogue is ever shown to the C library, which trusts its
+ * files. */
 #define _GNU_SOURCE
 #include "intl.h"
 
@@ -166,7 +167,7 @@ static enum standing open_rows(const struct rows *rows, struct catalogue **catal
  * once it knows that all strings are inside the file. */
 static int may_be_read(enum kob_fault fault) {
     return fault == KOB_NO_FAULT || fault == KOB_MO_REVISION || fault == KOB_MO_BAD_TEXT || fault == KOB_MO_FORMS ||
-           fault == KOB_MO_CHARSET || fault == KOB_MO_NO_CHARACTER;
+           fault == KOB_MO_ORDER || fault == KOB_MO_CHARSET || fault == KOB_MO_NO_CHARACTER;
 }
 
 static enum standing open_by_rows(const unsigned char *bytes, size_t len, struct catalogue **catalogue) {

@@ -1,10 +1,11 @@
 /* The strings of MO files that libkobdzila refuses and the GNU C library reads: whose strings aren't UTF-8 and in no
- * charset that libkobdzila decodes, and of later revisions. Its major revisions are 0 and 1, each with a minor one; 0.0 is
- * GNU gettext manual, "MO Files". From minor revision 1 on there must be a hash table, which isn't used here, and strings
- * may have system-dependent parts, such as the value of PRIu64; five more words of the header locate their tables.
+ * charset that libkobdzila decodes; whose keys are out of order, as `pybabel compile` writes them if there are
+ * contexts; and of later revisions. Its major revisions are 0 and 1, each with a minor one; 0.0 is GNU gettext manual,
+ * "MO Files". From minor revision 1 on there must be a hash table, which isn't used here, and strings may have
+ * system-dependent parts, such as the value of PRIu64; five more words of the header locate their tables.
  *
- * Nothing that a file says is trusted: all that is read is inside it, and strings that overlap can't make that more than
- * twice the file. */
+ * Nothing that a file says is trusted: all that is read is inside it, and strings that overlap can't make that more
+ * than twice the file. */
 #define _POSIX_C_SOURCE 200809L
 #include "intl.h"
 
@@ -205,7 +206,7 @@ static enum reading read_system_rows(struct bytes *file, struct rows *rows) {
 
 /* ---- order */
 
-/* By their keys, and equal ones as they came: their strings are in the order of their rows. */
+/* By their keys, and equal ones as they came: compilers write strings in the order of their rows. */
 static int compare(const void *a, const void *b) {
     const struct row *x = a, *y = b;
     int order = memcmp(x->key, y->key, x->key_len < y->key_len ? x->key_len : y->key_len);
@@ -218,8 +219,8 @@ static int is_same_key(const struct row *a, const struct row *b) {
     return a->key_len == b->key_len && !memcmp(a->key, b->key, a->key_len);
 }
 
-/* Merge the rows from `middle` on, which are in order, with those before. Of rows with one key the first one stays: the C
- * library finds that one. Rows before the middle that aren't in order stay so, and no catalogue is made of them. */
+/* Merge the rows from `middle` on with those before; both are in order. Of rows with one key the first one stays: the C
+ * library finds that one. */
 static int merge(struct rows *rows, size_t middle) {
     struct row *merged = malloc((rows->count + 1) * sizeof *merged);
     if (!merged)
@@ -230,7 +231,7 @@ static int merge(struct rows *rows, size_t middle) {
                        (plain < middle && (is_same_key(&rows->at[plain], &rows->at[system]) ||
                                            compare(&rows->at[plain], &rows->at[system]) < 0));
         const struct row *next = &rows->at[is_plain ? plain++ : system++];
-        if (is_plain || !count || !is_same_key(&merged[count - 1], next))
+        if (!count || !is_same_key(&merged[count - 1], next))
             merged[count++] = *next;
     }
     free(rows->at);
@@ -244,12 +245,11 @@ static int merge(struct rows *rows, size_t middle) {
 static enum reading read_all_rows(struct bytes *file, uint32_t system, struct rows *rows) {
     if (!read_plain_rows(file, rows))
         return NO_ROWS;
-    if (!system)
-        return ROWS_READ;
     size_t middle = rows->count;
-    enum reading reading = read_system_rows(file, rows);
+    enum reading reading = system ? read_system_rows(file, rows) : ROWS_READ;
     if (reading != ROWS_READ)
         return reading;
+    qsort(rows->at, middle, sizeof *rows->at, compare);
     qsort(rows->at + middle, rows->count - middle, sizeof *rows->at, compare);
     return merge(rows, middle) ? ROWS_READ : NO_MEMORY;
 }

@@ -347,11 +347,41 @@ def known_differences(folder: Path) -> list[Case]:
              [bound, "utf8 a 77", "utf8 b 77"]),
         Case(["bind", "app", str(folder), "ask", "app", "b", "env", "LANGUAGE", "de", "ask", "app", "b"],
              {"LANGUAGE": "fr"}, [bound, "fr b 77", "de b 77"]),
-        Case(["bind", "order", str(folder), "ask", "order", "b"], {"LANGUAGE": "fr"}, [bound, "b 77"]),
+        Case(["bind", "order", str(folder), "ask", "order", "a", "ask", "order", "b", "ask", "order", "c"],
+             {"LANGUAGE": "fr"}, [bound, "x 77", "y 77", "z 77"]),
+        *unordered_files(folder, bound),
         *[Case(["bind", "app", str(folder), "descriptors", "3", "ask", "app", "a", "descriptors", "9", "ask", "app", "a"],
                {"LANGUAGE": language}, [bound, "a 77", "fr a 77"])
           for language in ("fr", "french") if language == "fr" or has_alias(language)],
     ]
+
+
+def unordered_files(folder: Path, bound: str) -> list[Case]:
+    """Files as `pybabel compile` writes them: by msgid and then by context. In the last one a key is there twice."""
+    cases = []
+    for charset, letter, again in (("UTF-8", "é", b""), ("ISO-8859-1", "é", b""), ("SHIFT_JIS", "日", b""),
+                                   ("UTF-8", "é", b"Undo")):
+        domain = f"unordered-{charset}{again.decode()}"
+        texts = {"File": "Fichier", "noun\4Save": letter, "Undo": "Annuler", "a\4Zoom": "zoom",
+                 "file\0files": f"un\0{letter}"}
+        entries = {key.encode(): text.encode(charset) for key, text in texts.items()}
+        install(folder, "fr", domain, unordered(entries, UTF8.replace(b"UTF-8", charset.encode()), again))
+        words = ["bind", domain, str(folder), "plural", domain, "1", "plural", domain, "2"]
+        for msgid in ("File", "noun\4Save", "Undo", "a\4Zoom", "Zoom"):
+            words += ["ask", domain, msgid]
+        wanted = ["un", escaped(letter), "Fichier", escaped(letter), "Annuler", "zoom", "Zoom"]
+        cases.append(Case(words, {"LANGUAGE": "fr"}, [bound, *(f"{text} 77" for text in wanted)]))
+    return cases
+
+
+def unordered(entries: Entries, header: bytes, again: bytes) -> bytes:
+    """A file whose rows are in the order of the entries, and after them the key `again`, if any, once more."""
+    rows = [(b"", header), *entries.items(), *([(again, b"again")] if again else [])]
+    at, table, strings = 28 + 16 * len(rows), b"", b""
+    for text in [*(key for key, _ in rows), *(text for _, text in rows)]:
+        table += struct.pack("<II", len(text), at + len(strings))
+        strings += text + b"\0"
+    return struct.pack("<7I", 0x950412DE, 0, len(rows), 28, 28 + 8 * len(rows), 0, at) + table + strings
 
 
 def with_words(data: bytes, words: dict[int, int]) -> bytes:
