@@ -197,9 +197,10 @@ static int note_codeset(struct recalled *r, const char *domain, char **at) {
     return r->to && (!own || *own);
 }
 
-/* Make what is to be remembered; NULL if that isn't possible. */
-static struct recalled *new_recalled(const struct question *q, const struct list *files, locale_t locale) {
-    const char *domain = q->domain ? q->domain : current_domain(), *language = variable("LANGUAGE");
+/* Make what is to be remembered; NULL if that isn't possible. `language` is what LANGUAGE is now. */
+static struct recalled *new_recalled(const struct question *q, const struct list *files, locale_t locale,
+                                     const char *language) {
+    const char *domain = q->domain ? q->domain : current_domain();
     const char *name = locale == LC_GLOBAL_LOCALE ? "" : name_of_locale(locale, q->category);
     size_t most = DIGITS * (files ? files->count : 0) + strlen(domain) + strlen(language) + strlen(name) +
                   strlen(wanted_codeset(domain)) + 5;
@@ -239,7 +240,10 @@ void remember(const struct question *q, const struct list *files) {
     if (!go_inside())
         return;
     struct thread *t = this_thread();
-    struct recalled *r = t ? new_recalled(q, files, locale) : NULL;
+    /* a copy: what getenv returns may be gone after its next call (C standard, section 7.22.4.6), as it is with bash's */
+    char *language = t ? strdup(variable("LANGUAGE")) : NULL;
+    struct recalled *r = language ? new_recalled(q, files, locale, language) : NULL;
+    free(language);
     if (r)
         keep(t, r, q, locale);
     go_outside();
