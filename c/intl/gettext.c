@@ -93,8 +93,8 @@ static struct found find(const struct question *q, const char *category, const s
     const struct list *list = folder ? list_for(folder, category, domain, languages) : NULL;
     if (list)
         found = found_in(list, q, refused);
-    /* the working directory may change */
-    if (!made && (list || !languages) && !found.unconverted)
+    /* the working directory may change, and so may a locale that isn't known */
+    if (!made && (list || !languages) && !found.unconverted && is_locale_known())
         remember(q, list);
     free(made);
     return found;

@@ -109,6 +109,9 @@ int is_secure(void);
 /* Without the lock: copy what the process's locale is called, if that wasn't done yet. */
 void know_locale(void);
 
+/* Whether it was copied. If memory ran out, it wasn't: then messages aren't translated for now. */
+int is_locale_known(void);
+
 /* ---- aliases.c, under the lock: whether locale.alias was read, if it can be; it is read now if it wasn't. */
 int know_aliases(void);
 

@@ -32,10 +32,10 @@ const char *category_name(int category) {
     }
 }
 
-/* The process's locale, by category, and its codeset. NULL if memory ran out: then it counts as the locale C until it is
- * changed again. */
+/* The process's locale, by category, and its codeset. NULL if memory ran out: then it counts as the locale C, and is
+ * copied once more at the next call. */
 static char *names[CATEGORIES], *codeset;
-static atomic_int is_locale_known;
+static atomic_int is_copied;
 
 /* Make the string a copy of the text, unless it is equal. Return what to free. */
 static char *replace(char **string, const char *text) {
@@ -57,21 +57,27 @@ static const char *codeset_of_process(void) {
 /* During a change, and without the lock. */
 static void copy_locale(void) {
     char *old[CATEGORIES] = { NULL };
+    int are_copied = 1;
     take_lock();
     for (int category = 0; category < CATEGORIES; category++)
-        if (category_name(category))
+        if (category_name(category)) {
             old[category] = replace(&names[category], c_library()->setlocale(category, NULL));
+            are_copied &= names[category] != NULL;
+        }
     char *old_codeset = replace(&codeset, codeset_of_process());
+    are_copied &= codeset != NULL;
     note_change();
     leave_lock();
     for (int category = 0; category < CATEGORIES; category++)
         free(old[category]);
     free(old_codeset);
-    atomic_store_explicit(&is_locale_known, 1, memory_order_release);
+    atomic_store_explicit(&is_copied, are_copied, memory_order_release);
 }
 
+int is_locale_known(void) { return atomic_load_explicit(&is_copied, memory_order_acquire); }
+
 void know_locale(void) {
-    if (atomic_load_explicit(&is_locale_known, memory_order_acquire))
+    if (is_locale_known())
         return;
     begin_change();
     copy_locale();
