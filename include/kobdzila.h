@@ -6,7 +6,7 @@
  * child of a process that had several threads.
  *
  * NULL is allowed only where this header says so, and for these arguments:
- *   - a `msgid`: the look-up returns NULL;
+ *   - a `msgid`: the look-up returns NULL, or for a kob_text whose `at` is NULL such a one;
  *   - a `context`: the message has none;
  *   - a `plural`: NULL is returned where `plural` would be;
  *   - a `domain`, a `locale` or `languages`: the empty string, which is no name and finds nothing;

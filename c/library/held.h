@@ -75,6 +75,9 @@ static inline uint64_t number_of(const unsigned long long *n) { return n ? *n : 
 
 static inline uint32_t in_context(const char *context) { return context ? IN_CONTEXT : GETTEXT; }
 
+/* No string: the answer to a msgid that is none, and to one that isn't found. */
+static const kob_text no_text = { NULL, 0 };
+
 /* Replace a missing string by the empty one, so that its address is never NULL. */
 static inline kob_text present(kob_text text) { return text.at ? text : (kob_text){ "", 0 }; }
 
@@ -90,6 +93,6 @@ static inline const char *found_or(struct lent found, const char *other) {
 }
 
 static inline kob_text found_text(struct lent found) {
-    return found.len ? (kob_text){ (const char *)found.at, found.len - 1 } : (kob_text){ NULL, 0 };
+    return found.len ? (kob_text){ (const char *)found.at, found.len - 1 } : no_text;
 }
 #endif

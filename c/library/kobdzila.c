@@ -195,7 +195,8 @@ const char *kob_npgettext(const kob_catalogue *c, const char *context, const cha
 }
 
 kob_text kob_find(const kob_catalogue *c, kob_text context, kob_text msgid, const unsigned long long *n) {
-    msgid = present(msgid);
+    if (!msgid.at)
+        return no_text;
     if (!context.at && !n) { /* the call of most messages has an export of its own, which is faster */
         struct lent out;
         kobdzila_gettext(read_catalogue(c), (const unsigned char *)msgid.at, msgid.len, &out);
@@ -211,8 +212,9 @@ static uint64_t hint_of(const kob_catalogue *c, const kob_question *q) {
 }
 
 static kob_text find_hinted(const kob_catalogue *c, const kob_question *q, uint64_t hint) {
-    return found_text(ask_hinted(c, present(q->context), present(q->msgid), call_of(q->context, q->n),
-                                 number_of(q->n), hint));
+    if (!q->msgid.at)
+        return no_text;
+    return found_text(ask_hinted(c, present(q->context), q->msgid, call_of(q->context, q->n), number_of(q->n), hint));
 }
 
 /* A small catalogue has no hints, so its first question tells that the others needn't ask for one. */
@@ -242,19 +244,18 @@ static kob_text text_at(const kob_catalogue *c, uint32_t part, size_t index, siz
 }
 
 int kob_entry_at(const kob_catalogue *c, size_t index, kob_entry *entry) {
-    const kob_text none = { NULL, 0 };
     if (index >= kob_count(c))
         return 0;
-    entry->context = kobdzila_number(read_catalogue(c), HAS_CONTEXT, index) ? text_at(c, CONTEXT, index, 0) : none;
+    entry->context = kobdzila_number(read_catalogue(c), HAS_CONTEXT, index) ? text_at(c, CONTEXT, index, 0) : no_text;
     entry->msgid = text_at(c, MSGID, index, 0);
-    entry->plural = kobdzila_number(read_catalogue(c), HAS_PLURAL, index) ? text_at(c, PLURAL, index, 0) : none;
+    entry->plural = kobdzila_number(read_catalogue(c), HAS_PLURAL, index) ? text_at(c, PLURAL, index, 0) : no_text;
     entry->forms = (size_t)kobdzila_number(read_catalogue(c), FORMS, index);
     return 1;
 }
 
 kob_text kob_form_at(const kob_catalogue *c, size_t index, size_t form) {
     if (form >= kobdzila_number(read_catalogue(c), FORMS, index))
-        return (kob_text){ NULL, 0 };
+        return no_text;
     return text_at(c, FORM, index, form);
 }
 

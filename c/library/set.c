@@ -119,8 +119,10 @@ const char *kob_set_npgettext(const kob_set *set, const char *domain, const char
 
 kob_text kob_set_find(const kob_set *set, kob_text domain, kob_text languages, kob_text context, kob_text msgid,
                       const unsigned long long *n) {
-    return found_text(ask(set, present(domain), present(languages), present(context), present(msgid),
-                          call_of(context, n), number_of(n)));
+    if (!msgid.at)
+        return no_text;
+    return found_text(ask(set, present(domain), present(languages), present(context), msgid, call_of(context, n),
+                          number_of(n)));
 }
 
 /* ---- lists of languages that are looked at once */
@@ -184,8 +186,15 @@ const char *kob_languages_npgettext(const kob_languages *list, const char *conte
                     n == 1 ? msgid : plural);
 }
 
+static kob_text find_hinted(const kob_languages *list, const kob_question *q, uint64_t hint) {
+    if (!q->msgid.at)
+        return no_text;
+    return found_text(ask_hinted(list, present(q->context), q->msgid, call_of(q->context, q->n), number_of(q->n),
+                                 hint));
+}
+
 kob_text kob_languages_find(const kob_languages *list, kob_text context, kob_text msgid, const unsigned long long *n) {
-    return found_text(ask_in(list, present(context), present(msgid), call_of(context, n), number_of(n)));
+    return find_hinted(list, &(kob_question){ context, msgid, n }, NO_HINT);
 }
 
 /* Without a hint for the first question the others ask for none: the list's first catalogue is small. */
@@ -197,11 +206,8 @@ void kob_languages_find_many(const kob_languages *list, const kob_question *ques
         hints[0] = hint_in(list, questions);
         for (size_t i = 1; i < size; i++)
             hints[i] = hints[0] == NO_HINT ? NO_HINT : hint_in(list, &questions[i]);
-        for (size_t i = 0; i < size; i++) {
-            const kob_question *q = &questions[i];
-            answers[i] = found_text(ask_hinted(list, present(q->context), present(q->msgid),
-                                               call_of(q->context, q->n), number_of(q->n), hints[i]));
-        }
+        for (size_t i = 0; i < size; i++)
+            answers[i] = find_hinted(list, &questions[i], hints[i]);
     }
 }
 

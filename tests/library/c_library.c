@@ -67,6 +67,8 @@ static void texts(const kob_catalogue *c) {
     is("find", same(found, "fichiers") && found.at[found.len] == 0);
     is("find in a context", same(kob_find(c, text("menu"), text("Open"), NULL), "Ouvrir"));
     is("find of none", !kob_find(c, none, text("Open"), NULL).at);
+    is("find of the header", kob_find(c, none, text(""), NULL).at != NULL);
+    is("find of NULL", !kob_find(c, none, none, NULL).at && !kob_find(c, none, none, &two).at);
     kob_entry e;
     is("count", kob_count(c) == 4);
     is("the header", kob_entry_at(c, 0, &e) && same(e.msgid, "") && !e.context.at && !e.plural.at && e.forms == 1);
@@ -262,6 +264,8 @@ static void list_answers(const kob_set *set, const char *domain, const char *lan
         }
         is("find in a list", same_found(kob_languages_find(&list, in, text(msgid), NULL),
                                         kob_set_find(set, text(domain), text(languages), in, text(msgid), NULL)));
+        is("find of NULL in a list", !kob_languages_find(&list, in, none, NULL).at &&
+                                         !kob_set_find(set, text(domain), text(languages), in, none, NULL).at);
     }
     for (unsigned long long n = 0; n < 3; n++)
         is("ngettext in a list", kob_languages_ngettext(&list, msgid, "plural", n) ==
@@ -297,6 +301,7 @@ static void many_answers(const kob_catalogue *c, const kob_set *set, const char 
     kob_languages_find_many(&list, q, count, in_list);
     for (size_t i = 0; i < count; i++) {
         is("one of many", same_found(one[i], kob_find(c, q[i].context, q[i].msgid, q[i].n)));
+        is("none of many", q[i].msgid.at || !one[i].at);
         kob_text found = kob_set_find(set, text("app"), text(languages), q[i].context, q[i].msgid, q[i].n);
         is("one of many in a set", same_found(in_set[i], found));
         is("one of many in a list", same_found(in_list[i], found));

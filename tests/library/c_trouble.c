@@ -560,7 +560,9 @@ static void null(void) {
     is("and with a number", !strcmp(kob_npgettext(c, NULL, "file", "files", 2), "fichiers"));
     is("a plural of NULL", !kob_ngettext(c, "none", NULL, 2) && !strcmp(kob_ngettext(c, "none", NULL, 1), "none"));
     kob_text no_text = { NULL, 0 };
-    is("find of no text is the header", kob_find(c, no_text, no_text, NULL).at != NULL);
+    kob_text empty_text = { "", 0 };
+    is("find of no text", !kob_find(c, no_text, no_text, NULL).at);
+    is("find of an empty text is the header", kob_find(c, no_text, empty_text, NULL).at != NULL);
     kob_set *empty = kob_set_new(), *set = kob_set_with(empty, "app", "fr", c, NULL);
     is("names of NULL", !kob_set_with(set, NULL, "fr", c, NULL) && !kob_set_with(set, "app", NULL, c, NULL));
     is("files of names of NULL",
@@ -578,7 +580,8 @@ static void null(void) {
     is("a list's ngettext of NULL",
        !kob_languages_ngettext(&list, NULL, "b", 2) && !kob_languages_npgettext(&list, "m", NULL, "b", 2));
     is("a list's context of NULL", !strcmp(kob_languages_pgettext(&list, NULL, "file"), "fichier"));
-    is("a list's find of no text is the header", kob_languages_find(&list, no_text, no_text, NULL).at != NULL);
+    is("a list's find of no text", !kob_languages_find(&list, no_text, no_text, NULL).at);
+    is("a list's find of an empty text is the header", kob_languages_find(&list, no_text, empty_text, NULL).at != NULL);
     list = kob_set_languages(set, no_text, no_text);
     is("a list of no text", !kob_languages_find(&list, no_text, (kob_text){ "file", 4 }, NULL).at);
     kob_release(none);
