@@ -28,7 +28,7 @@ struct watcher {
     int inotify;
     struct folder *folders; /* by the number of their watch */
     size_t folder_count;
-    char **changed; /* PO files */
+    char **changed; /* PO files, and folders that came: all in them may have changed */
     size_t changed_count;
     bool has_lost;  /* the system has left changes out */
     bool is_full;   /* no more folders can be watched */
@@ -75,9 +75,15 @@ static void look_for_places(struct watcher *watcher) {
         watcher->has_lost = watcher->has_news = true;
 }
 
+/* Whether a path is that of a file or a folder, or of what is in the folder. */
+static bool is_at_or_in(const char *path, const char *place) {
+    size_t len = strlen(place);
+    return !strncmp(path, place, len) && (path[len] == '\0' || path[len] == '/');
+}
+
 bool was_changed(const struct watcher *watcher, const char *path) {
     for (size_t place = 0; place < watcher->changed_count; place++)
-        if (!strcmp(watcher->changed[place], path))
+        if (is_at_or_in(path, watcher->changed[place]))
             return true;
     return watcher->has_lost;
 }
@@ -130,9 +136,9 @@ static void take_event(struct watcher *watcher, const struct inotify_event *even
         watcher->there -= folder->is_given;
         free(folder->path);
         *folder = (struct folder){0};
-    } else if (event->len && (event->mask & IN_ISDIR || !strcmp(event->name, "LINGUAS"))) {
-        watcher->has_news |= event->name[0] != '.';
-    } else if (event->len && is_po_name(event->name)) {
+    } else if (event->len && !strcmp(event->name, "LINGUAS")) {
+        watcher->has_news = true;
+    } else if (event->len && (event->mask & IN_ISDIR ? event->name[0] != '.' : is_po_name(event->name))) {
         add_change(watcher, folder->path, event);
     }
 }

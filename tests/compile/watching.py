@@ -153,13 +153,18 @@ def look_at_edits(watching: Watching) -> None:
 
 
 def look_at_folders() -> None:
-    """A folder that is made, one that is renamed into the project, and a language that LINGUAS gets."""
+    """A folder that is made, and made anew; one that is renamed into the project; and a language that LINGUAS gets."""
     text = text_of(7, False)
     mo = wanted_for(text)
     made = ROOM / "app/locale/fr/LC_MESSAGES"
     made.mkdir(parents=True)
     (made / "app.po").write_bytes(text)
     judge("a new folder", "" if waits_for(lambda: has(made / "app.mo", mo)) else "no MO file")
+    shutil.rmtree(made)
+    time.sleep(0.2)
+    made.mkdir()
+    (made / "app.po").write_bytes(text)
+    judge("a folder that comes back", "" if waits_for(lambda: has(made / "app.mo", mo)) else "no MO file")
     Path("moved/po").mkdir(parents=True)
     Path("moved/po/fr.po").write_bytes(text)
     Path("moved/po/LINGUAS").write_bytes(b"fr\n")
