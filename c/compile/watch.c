@@ -109,7 +109,9 @@ static bool is_still_empty(const char *path) {
 static void add_change(struct watcher *watcher, const char *folder, const struct inotify_event *event) {
     char *path = path_of(folder, event->name);
     bool is_made = !(event->mask & (IN_CLOSE_WRITE | IN_MOVED_TO));
-    if ((is_made && is_still_empty(path)) || was_changed(watcher, path)) {
+    bool counts = !is_made || !is_still_empty(path);
+    watcher->has_news |= counts; /* (also if it was changed before a round that wasn't possible) */
+    if (!counts || was_changed(watcher, path)) {
         free(path);
         return;
     }
@@ -118,7 +120,6 @@ static void add_change(struct watcher *watcher, const char *folder, const struct
         stop_for_memory();
     watcher->changed = changed;
     watcher->changed[watcher->changed_count++] = path;
-    watcher->has_news = true;
 }
 
 static void take_event(struct watcher *watcher, const struct inotify_event *event) {

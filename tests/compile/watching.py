@@ -221,6 +221,28 @@ def look_at_places() -> None:
     watching.stop()
 
 
+def look_at_collisions() -> None:
+    """A file that is saved while another one has its MO file, so that nothing is compiled, and again after that."""
+    file, other = Path("collided/fr.po"), Path("collided/other/fr.po")
+    file.parent.mkdir()
+    watching = Watching("-o", "placed", "-d", "x", "collided")
+    save_by_rename(file, text_of(5, False))
+    waits_for(lambda: Path("placed/fr/LC_MESSAGES/x.mo").exists())
+    other.parent.mkdir()
+    save_by_rename(other, text_of(5, False))
+    waits_for(lambda: any("would both be" in it for it in watching.lines))
+    save_by_rename(file, text_of(6, False))
+    waits_for(lambda: sum("would both be" in it for it in watching.lines) > 1)
+    time.sleep(0.2)
+    shutil.rmtree(other.parent)
+    text = text_of(7, False)
+    mo = wanted_for(text)
+    save_by_rename(file, text)
+    wrong = "" if waits_for(lambda: has(Path("placed/fr/LC_MESSAGES/x.mo"), mo)) else f"no MO file; {watching.lines}"
+    judge("two PO files with one MO file, and one of them goes", wrong)
+    watching.stop()
+
+
 def main() -> None:
     signal.signal(signal.SIGINT, signal.SIG_DFL)  # (ignored in a background job of a shell, and so in its children)
     shutil.rmtree(ROOM, ignore_errors=True)
@@ -235,6 +257,7 @@ def main() -> None:
     judge("no leftover", "" if not left else str(left))
     look_at_names()
     look_at_places()
+    look_at_collisions()
 
 
 if __name__ == "__main__":
