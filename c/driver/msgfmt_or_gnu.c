@@ -327,6 +327,11 @@ static bool leaves_messages_out(const struct run *run, const struct answer *answ
     return run->request->checks_compatibility && memmem(answer->said, answer->len, ", ", 2);
 }
 
+/* Whether GNU msgfmt warns about them, and so has to make the MO file. */
+static bool is_left_to_gnu(struct run *run, const struct answer *answer) {
+    return leaves_messages_out(run, answer) && has_gnu(run);
+}
+
 static const char *output_of(const struct run *run) {
     return run->request->output ? run->request->output : "messages.mo";
 }
@@ -367,7 +372,7 @@ static struct answer compile(struct run *run) {
         stop("cannot keep an MO file: ", strerror(errno));
     struct answer answer = run_compiler(run, "-", memory);
     bool is_empty = !output && fstat(memory, &made) == 0 && made.st_size <= EMPTY_MO;
-    bool writes = !answer.ending.failure && !answer.ending.status && !is_empty && !leaves_messages_out(run, &answer);
+    bool writes = !answer.ending.failure && !answer.ending.status && !is_empty && !is_left_to_gnu(run, &answer);
     if (writes && replaces)
         replace_output(run, &answer, memory);
     close(memory);
@@ -531,14 +536,13 @@ _Noreturn static void end_with_flag_lines(struct run *run, unsigned long long li
 
 _Noreturn static void compile_text(struct run *run, const char *why) {
     struct answer answer = compile(run);
-    char *refusal = answer.ending.failure ? NULL : refusal_of(run, &answer);
-    if (!refusal && answer.ending.status == 0 && leaves_messages_out(run, &answer))
-        refusal = strdup("-C and messages that are left out");
+    const char *refusal = answer.ending.failure ? NULL : refusal_of(run, &answer);
+    bool is_refused = refusal || (answer.ending.status && !has_not_written(&answer));
+    if (answer.ending.status == 0 && leaves_messages_out(run, &answer))
+        refusal = "-C and messages that are left out";
     if (refusal && has_gnu(run))
         end_by_gnu(run, refusal);
-    const char *reason = *why ? why : refusal ? refusal : "";
-    bool is_refused = refusal || (answer.ending.status && !has_not_written(&answer));
-    end_by_ours(run, &answer, reason, is_refused);
+    end_by_ours(run, &answer, *why ? why : refusal ? refusal : "", is_refused);
 }
 
 /* Keep the text that was converted or changed where Kobdzila's msgfmt reads it. */

@@ -404,6 +404,13 @@ logs 'driver, no GNU msgfmt, the log of a check' 'ours\t0\telisp-format; no GNU 
 found 'no GNU msgfmt, a format that is not read' 0 '' -c -o x.mo scheme.po
 logs 'driver, no GNU msgfmt, the log of it' \
   'ours\t0\tscheme-format that is not read here; no GNU msgfmt\tscheme.po'
+{ cat ours.po && printf '\nmsgid "a"\nmsgstr ""\n'; } > half.po
+"$program" -o wanted.mo half.po
+rm -f x.mo
+found 'no GNU msgfmt, -C and a message left out' 0 '' -C -o x.mo half.po
+logs 'driver, no GNU msgfmt, the log of -C' 'ours\t0\t-C and messages that are left out; no GNU msgfmt\thalf.po'
+if cmp -s x.mo wanted.mo; then ok 'driver, no GNU msgfmt, -C: the MO file'
+else failed 'driver, no GNU msgfmt, -C: the MO file' "$(ls x.mo 2>&1)"; fi
 found 'no GNU msgfmt, a refusal' 1 "twice.po:6: duplicate message
 $missing (duplicate message); it is in the package gettext" -o x.mo twice.po
 found 'no GNU msgfmt, a folder that is not there' 1 "msgfmt: cannot write no/x.mo
