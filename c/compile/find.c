@@ -123,13 +123,14 @@ static unsigned char kind_of(int folder, const struct dirent *entry) {
 static int list_folder(const struct options *options, DIR *folder, struct listing *listing) {
     for (struct dirent *entry; errno = 0, (entry = readdir(folder));) {
         const char *name = entry->d_name;
-        if (is_po_name(name) && name[0] != '.')
+        bool is_folder = kind_of(dirfd(folder), entry) == DT_DIR;
+        if (is_po_name(name) && name[0] != '.' && !is_folder)
             add_name(&listing->files, &listing->file_count, name);
         else if (!strcmp(name, "LINGUAS"))
             listing->has_linguas = true;
         else if (!strcmp(name, "pyvenv.cfg"))
             listing->is_environment = true;
-        else if (!is_excluded(options, name) && kind_of(dirfd(folder), entry) == DT_DIR)
+        else if (is_folder && !is_excluded(options, name))
             add_name(&listing->folders, &listing->folder_count, name);
     }
     return errno;

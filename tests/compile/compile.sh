@@ -147,6 +147,9 @@ says 'compile, LINGUAS of a manual' 3 'kob-compile: manual/help/LINGUAS lists nl
 holds 'compile, LINGUAS of a manual: LANGUAGE/LANGUAGE.po' is_as_msgfmt manual/help/de/de.mo manual/help/de/de.po
 printf 'fr nl\n' > project/po/LINGUAS
 says 'compile, LINGUAS lists what is not there' 3 'kob-compile: project/po/LINGUAS lists nl, and there is no nl.po' -q project/po
+po called/it.po/fr.po fr a && po called/de.po de a
+says 'compile, a folder whose name ends in .po' 0 '' -q called
+holds 'compile, a folder whose name ends in .po: what is in it' is_as_msgfmt called/it.po/fr.mo called/it.po/fr.po
 mkdir empty && po again.po fr a && ln -s one link
 says 'compile, no such folder' 3 'kob-compile: cannot read none: No such file or directory' none
 holds 'compile, no such folder: no summary' [ ! -s out ]
