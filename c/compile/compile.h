@@ -53,6 +53,7 @@ struct catalogue {
     off_t size;
     struct timespec time; /* of its last change, when it was found */
     bool is_changed;      /* since the last round of --watch */
+    bool is_kept;         /* its outcome is that of an earlier round */
     enum outcome outcome;
     bool by_gnu;          /* the answer is GNU msgfmt's */
     bool lacks_gnu;       /* GNU msgfmt may compile it, and there is none */

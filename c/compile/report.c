@@ -66,6 +66,8 @@ void report_troubles(const struct run *run) {
     const struct catalogues *all = &run->catalogues;
     size_t lacking = 0;
     for (size_t place = 0; place < all->count; place++) {
+        if (all->at[place].is_kept) /* (which was told then) */
+            continue;
         tell_trouble(&all->at[place]);
         lacking += all->at[place].lacks_gnu;
     }

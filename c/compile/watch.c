@@ -186,12 +186,17 @@ static int by_path(const void *one, const void *two) {
     return strcmp(((const struct catalogue *)one)->po, ((const struct catalogue *)two)->po);
 }
 
-/* Leave out what was there before and hasn't changed since, even if it was refused. */
-static void leave_out(struct catalogues *all, const struct catalogues *before) {
+/* Leave out what was there before and hasn't changed since. What became of it stays: it may be refused, or lack fields. */
+static void leave_out(struct catalogues *all, struct catalogues *before) {
     for (size_t place = 0; place < all->count; place++) {
-        struct catalogue *it = &all->at[place];
-        bool is_known = before->count && bsearch(it, before->at, before->count, sizeof *it, by_path);
-        if (is_known && !it->is_changed)
+        struct catalogue *it = &all->at[place], now = *it;
+        struct catalogue *known = before->count ? bsearch(it, before->at, before->count, sizeof *it, by_path) : NULL;
+        if (!known || it->is_changed)
+            continue;
+        *it = *known;
+        *known = now;
+        it->is_kept = true;
+        if (it->outcome == IS_COMPILED)
             it->outcome = IS_CURRENT;
     }
 }

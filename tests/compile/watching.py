@@ -7,6 +7,7 @@ An edit writes one PO file, or two at once, in one of the ways in which editors 
 MSGFMT writes for the text. A text that it refuses has to leave the MO file as it was, and a line is waited for. Prints a
 line `ok compile, NAME` or `FAILED compile, NAME: WHY` for each rule.
 """
+import json
 import os
 import random
 import shutil
@@ -243,6 +244,32 @@ def look_at_collisions() -> None:
     watching.stop()
 
 
+def look_at_machines() -> None:
+    """A PO file that is refused, in JSON and SARIF of a later round, in which another one is compiled."""
+    folder = Path("machines-watched")
+    folder.mkdir()
+    (folder / "fr.po").write_bytes(text_of(1, True))
+    (folder / "de.po").write_bytes(text_of(2, False))
+    watching = Watching("--json", "--sarif=watched.sarif", str(folder))
+
+    def rounds() -> list[dict]:
+        return [json.loads(it) for it in list(watching.lines) if it.startswith("{")]
+
+    waits_for(rounds)
+    save_by_rename(folder / "de.po", text_of(3, False))
+    waits_for(lambda: len(rounds()) > 1)
+    watching.stop()
+    last = rounds()[-1]
+    outcomes = [(it["outcome"], it.get("why")) for it in last["catalogues"]]
+    (run,) = json.loads(Path("watched.sarif").read_text(encoding="utf-8"))["runs"]
+    wrong = f"{last}, {run['results']}"
+    if outcomes == [("compiled", None), ("refused", "duplicate message")] and last["status"] == len(run["results"]) == 1:
+        wrong = ""
+    judge("JSON and SARIF of a round, and what was refused before", wrong)
+    said = sum(it.endswith(": duplicate message") for it in watching.lines)
+    judge("what was refused before is told once", "" if said == 1 else str(watching.lines))
+
+
 def main() -> None:
     signal.signal(signal.SIGINT, signal.SIG_DFL)  # (ignored in a background job of a shell, and so in its children)
     shutil.rmtree(ROOM, ignore_errors=True)
@@ -258,6 +285,7 @@ def main() -> None:
     look_at_names()
     look_at_places()
     look_at_collisions()
+    look_at_machines()
 
 
 if __name__ == "__main__":
