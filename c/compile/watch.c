@@ -224,7 +224,8 @@ static enum status compile_round(struct run *run, struct watcher *watcher, bool 
     run->finished = 0;
     clock_gettime(CLOCK_MONOTONIC, &run->start);
     watcher->there = count_places(&run->options);
-    if (find_catalogues(run, watcher) == USAGE) {
+    enum status found = find_catalogues(run, watcher);
+    if (found == USAGE) {
         free_catalogues(&run->catalogues);
         run->catalogues = before;
         watcher->has_news = false;
@@ -240,7 +241,8 @@ static enum status compile_round(struct run *run, struct watcher *watcher, bool 
     else
         print_round(run);
     report_troubles(run);
-    print_for_machines(run, status_of(run));
+    enum status status = status_of(run);
+    print_for_machines(run, status > found ? status : found);
     return DONE;
 }
 

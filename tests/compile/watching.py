@@ -258,7 +258,6 @@ def look_at_machines() -> None:
     waits_for(rounds)
     save_by_rename(folder / "de.po", text_of(3, False))
     waits_for(lambda: len(rounds()) > 1)
-    watching.stop()
     last = rounds()[-1]
     outcomes = [(it["outcome"], it.get("why")) for it in last["catalogues"]]
     (run,) = json.loads(Path("watched.sarif").read_text(encoding="utf-8"))["runs"]
@@ -266,8 +265,13 @@ def look_at_machines() -> None:
     if outcomes == [("compiled", None), ("refused", "duplicate message")] and last["status"] == len(run["results"]) == 1:
         wrong = ""
     judge("JSON and SARIF of a round, and what was refused before", wrong)
+    save_by_rename(folder / "LINGUAS", b"de fr nl\n")
+    waits_for(lambda: len(rounds()) > 2)
+    watching.stop()
     said = sum(it.endswith(": duplicate message") for it in watching.lines)
     judge("what was refused before is told once", "" if said == 1 else str(watching.lines))
+    status = rounds()[-1]["status"]
+    judge("JSON of a round in which a file is missing", "" if status == 3 else f"status {status}")
 
 
 def main() -> None:
