@@ -15,7 +15,8 @@
 
 enum { QUIET = 30, MOST_QUIETS = 10 }; /* milliseconds without a change that end a moment, and how many at most */
 enum { PAUSE = 500 }; /* milliseconds between two looks for an argument that isn't there */
-enum { CHANGES = IN_CLOSE_WRITE | IN_MOVED_TO | IN_CREATE | IN_MOVE_SELF };
+enum { GOES = IN_DELETE | IN_MOVED_FROM }; /* which matters for a LINGUAS alone */
+enum { CHANGES = IN_CLOSE_WRITE | IN_MOVED_TO | IN_CREATE | IN_MOVE_SELF | GOES };
 
 struct folder {
     char *path;    /* NULL if no folder has this number */
@@ -139,8 +140,10 @@ static void take_event(struct watcher *watcher, const struct inotify_event *even
         *folder = (struct folder){0};
     } else if (event->len && !strcmp(event->name, "LINGUAS")) {
         watcher->has_news = true;
-    } else if (event->len && (event->mask & IN_ISDIR ? event->name[0] != '.' : is_po_name(event->name))) {
-        add_change(watcher, folder->path, event);
+    } else if (event->len && !(event->mask & GOES)) {
+        bool is_folder = event->mask & IN_ISDIR;
+        if (is_folder ? event->name[0] != '.' : is_po_name(event->name))
+            add_change(watcher, folder->path, event);
     }
 }
 

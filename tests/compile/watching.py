@@ -174,6 +174,10 @@ def look_at_folders() -> None:
     (ROOM / "moved/po/nl.po").write_bytes(text)
     (ROOM / "moved/po/LINGUAS").write_bytes(b"fr nl\n")
     judge("LINGUAS", "" if waits_for(lambda: has(ROOM / "moved/po/nl.mo", mo)) else "no MO file")
+    (ROOM / "moved/po/de.po").write_bytes(text)
+    time.sleep(0.2)
+    (ROOM / "moved/po/LINGUAS").unlink()
+    judge("LINGUAS goes", "" if waits_for(lambda: has(ROOM / "moved/po/de.mo", mo)) else "no MO file")
 
 
 def look_at_names() -> None:
