@@ -45,7 +45,7 @@ const UNREPORTED: Duration = Duration::from_secs(1);
 /// fs::write(messages.join("garden.po"), "msgid \"Winter\"\nmsgstr \"Hiver\"\n")?;
 ///
 /// let store = Arc::new(Store::new());
-/// let watch = WatchOptions::new(&folder).refused(|file| eprintln!("{file}")).start(&store)?;
+/// let watch = WatchOptions::new(&folder).start(&store)?;
 /// assert_eq!(store.version(), 1);
 ///
 /// fs::write(messages.join("garden.po"), "msgid \"Winter\"\nmsgstr \"L'hiver\"\n")?;
@@ -162,7 +162,7 @@ impl WatchOptions {
             settle: Duration::from_millis(100),
             every: Duration::from_secs(10),
             accepts_empty: false,
-            refused: Box::new(|file| drop(writeln!(io::stderr(), "{file}"))),
+            refused: Box::new(print),
         }
     }
 
@@ -365,6 +365,13 @@ impl Error for FileRefused {
     fn source(&self) -> Option<&(dyn Error + 'static)> {
         self.why.as_ref().and_then(Error::source)
     }
+}
+
+/// Prints a refusal with its cause, such as `fr.po: file not readable: Permission denied (os error 13)`.
+fn print(file: &FileRefused) {
+    let cause = file.source().map_or_else(String::new, |it| format!(": {it}"));
+    // (`eprintln!` panics if nobody reads standard error any more)
+    drop(writeln!(io::stderr(), "{file}{cause}"));
 }
 
 /// What changes when a file does.

@@ -1,9 +1,11 @@
 use crate::{compiled, GARDEN};
 use kobdzila::{Domain, Fault, FileRefused, Store, Watch, WatchOptions};
+use std::env;
 use std::fs::{self, File};
 use std::io::Write;
 use std::os::unix::fs::symlink;
 use std::path::PathBuf;
+use std::process::Command;
 use std::sync::{Arc, Mutex};
 use std::thread;
 use std::time::{Duration, Instant};
@@ -215,6 +217,32 @@ fn a_file_that_is_refused_is_reported_once_and_changes_nothing() {
     assert_eq!((garden.store.version(), garden.winter("fr")), (1, "one".into()));
     garden.write(PO, winter("two"));
     comes("two", || garden.winter("fr") == "two");
+}
+
+/// The variable with which a test calls itself as a program: the folder to watch.
+const WATCHED: &str = "KOBDZILA_WATCHED";
+
+#[test]
+fn a_refusal_is_printed_with_its_cause() {
+    if let Some(folder) = env::var_os(WATCHED) {
+        drop(WatchOptions::new(folder).start(&Arc::default()).unwrap());
+        return;
+    }
+    let garden = Garden::new("printed");
+    // (a file that even root can't read: nothing is at the address 0)
+    symlink("/proc/self/mem", garden.path(PO)).unwrap();
+    let mut program = Command::new(env::current_exe().unwrap());
+    let said = program
+        .args(["--exact", "watches::a_refusal_is_printed_with_its_cause"])
+        .env(WATCHED, &garden.folder)
+        .output()
+        .unwrap();
+    assert!(said.status.success());
+    let line = format!(
+        "{}: file not readable: Input/output error (os error 5)\n",
+        garden.path(PO).display()
+    );
+    assert_eq!(String::from_utf8_lossy(&said.stderr), line);
 }
 
 #[test]
