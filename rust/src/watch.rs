@@ -601,29 +601,22 @@ impl Looking {
 
     /// Loads a file. One that has changed once more is looked at next time.
     fn load_file(&mut self, path: PathBuf, stamp: Stamp) -> bool {
+        let mut seen = Seen {
+            stamp,
+            hash: None,
+            has_messages: self.has_messages(&path),
+            is_loaded: false,
+        };
         let bytes = match fs::read(&path) {
             Ok(bytes) => bytes,
-            Err(why) => {
-                let seen = Seen {
-                    stamp,
-                    hash: None,
-                    has_messages: false,
-                    is_loaded: false,
-                };
-                return self.refuse(path, seen, Some(Refusal::unreadable(why).into()));
-            }
+            Err(why) => return self.refuse(path, seen, Some(Refusal::unreadable(why).into())),
         };
         if stamp_of(&path) != Some(stamp) {
             return false;
         }
         let mut hasher = self.hashes.build_hasher();
         bytes.hash(&mut hasher);
-        let mut seen = Seen {
-            stamp,
-            hash: Some(hasher.finish()),
-            has_messages: self.has_messages(&path),
-            is_loaded: false,
-        };
+        seen.hash = Some(hasher.finish());
         if self.is_shown(&path, &seen) {
             seen.is_loaded = self.seen.get(&path).map_or(false, |it| it.is_loaded);
             self.seen.insert(path, seen);

@@ -266,6 +266,21 @@ fn a_file_without_a_message_replaces_none() {
 }
 
 #[test]
+fn nor_after_a_file_that_cannot_be_read() {
+    let garden = Garden::new("unreadable");
+    garden.write(PO, winter("one"));
+    let _watch = garden.watch();
+    symlink("/proc/self/mem", garden.path("new")).unwrap();
+    fs::rename(garden.path("new"), garden.path(PO)).unwrap();
+    comes("refused", || !garden.refused().is_empty());
+    garden.write("new", "");
+    fs::rename(garden.path("new"), garden.path(PO)).unwrap();
+    let is_refused = || garden.refused().iter().any(|it| it.contains("no message"));
+    comes("refused again", || is_refused() || garden.store.version() > 1);
+    assert_eq!((garden.store.version(), garden.winter("fr")), (1, "one".into()));
+}
+
+#[test]
 fn of_an_mo_file_and_a_po_file_the_later_one_is_shown() {
     let garden = Garden::new("both");
     garden.write(MO, compiled(&winter("mo")).mo_file());
