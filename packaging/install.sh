@@ -39,6 +39,8 @@ mode() {
 folder() {
   [ ! -d "${1:-/}" ] || return 0
   folder "${1%/*}" || return
+  # (a name may lead to it twice, as a//b does)
+  [ ! -d "$1" ] || return 0
   # (noted first, since a signal may come as soon as it is made)
   made="$1
 $made"

@@ -105,6 +105,15 @@ install
 holds 'a relative folder is one below the current one' all_right
 install remove
 
+# (as of a variable that ends with a slash)
+for name in there// there//usr there/. there/./usr there/../usr; do
+  PREFIX=$room/$name
+  install
+  holds "a folder called $name" all_right
+  install remove
+  holds "a folder called $name: nothing is left" test ! -e "$room/there" -a ! -e "$room/usr"
+done
+
 # (as in a folder that is mounted noexec, such as /tmp of some machines)
 PREFIX=$room/usr
 chmod -x "$room/tarball/tools/installed_page"
