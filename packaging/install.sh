@@ -15,8 +15,13 @@ case $prefix in /*) ;; *) prefix=$PWD/$prefix ;; esac
 prefix=${prefix%/}
 CDPATH='' cd -- "$(dirname -- "$0")"
 documents=$prefix/share/doc/${as}kobdzila
-# (the folders that were made for an installation, one on each line)
-noted=$documents/folders
+# (the folders that were made for an installation, and its files below PREFIX, one on each line)
+noted=$documents/folders listed=$documents/files
+# (installations with other names for the programs, and their files)
+others=$(find "$prefix/share/doc" -path '*kobdzila/folders' 2> /dev/null | grep -Fxv "$noted" || true)
+kept=$(printf '%s\n' "$others" | while read -r it; do
+  [ ! -f "$it" ] || cat "${it%folders}files" 2> /dev/null || true
+done)
 files=$(find bin include lib share ! -type d | LC_ALL=C sort)
 
 # target FILE: prints where a file of the tarball is installed
@@ -73,10 +78,20 @@ prepare() {
 }
 put() { mv -f "$2.new" "$2"; }
 drop_new() { rm -f "$2.new"; }
-# drop FILE NAME: removes a file, unless another installation below PREFIX has it as well
+name() { printf '%s\n' "${2#"$prefix/"}"; }
+
+# drop: removes the files that standard input names, unless another installation below PREFIX has them as well
 drop() {
-  if [ -n "$others" ] && [ "$(as=other-; target "$1")" = "$2" ]; then return; fi
-  rm -f "$2"
+  while read -r it; do
+    case "
+$kept
+" in
+      *"
+$it
+"*) ;;
+      *) [ -z "$it" ] || rm -f "$prefix/$it" || return ;;
+    esac
+  done
 }
 
 # hand_over: lists the folders that were made with those of another installation below PREFIX, which may lie in them
@@ -94,10 +109,9 @@ empty_folders() {
 
 if [ $# = 1 ]; then
   made=$(cat "$noted" 2> /dev/null || true) status=0
-  # (one with other names for the programs)
-  others=$(find "$prefix/share/doc" -path '*kobdzila/folders' 2> /dev/null | grep -Fxv "$noted" || true)
   # (once the list of folders is gone, they have to be as well)
-  if ! { each drop && trap '' HUP INT TERM && hand_over && rm -f "$noted"; }; then
+  if ! { { each name && cat "$listed" 2> /dev/null; } | drop &&
+         trap '' HUP INT TERM && rm -f "$listed" && hand_over && rm -f "$noted"; }; then
     status=1
     printf '%s\n' "install.sh: not all of it was removed below $prefix" >&2
   fi
@@ -119,6 +133,11 @@ trap failed HUP INT TERM
 each prepare || failed
 trap '' HUP INT TERM
 each put
+# (an earlier version may have had files that this one hasn't)
+now=$(each name)
+[ ! -f "$listed" ] || grep -Fxv "$now" "$listed" | drop
+printf '%s\n' "$now" > "$listed"
+chmod 644 "$listed"
 if [ ! -f "$noted" ]; then before=; else before=$(cat "$noted"); fi
 printf '%s\n' "$before" "$made" | grep . > "$noted" || true
 chmod 644 "$noted"

@@ -133,6 +133,19 @@ holds 'a folder that was there keeps its mode' test "$(stat -c %a "$PREFIX/bin")
 install remove
 holds 'what was there before stays' test "$(listed)" = "$before"
 
+# a version with a program that the next one doesn't have, and with one that gets another name
+cp -R "$room/tarball" "$room/earlier"
+for it in earlier kob-former; do cp "$room/earlier/bin/msgfmt" "$room/earlier/bin/$it"; done
+sh "$room/earlier/install.sh" > "$room/log" 2>&1
+PROGRAM_PREFIX=kob- sh "$room/earlier/install.sh" >> "$room/log" 2>&1
+install
+holds 'an earlier version: its own programs are gone' test ! -e "$PREFIX/bin/earlier" -a -x "$PREFIX/bin/msgfmt"
+holds 'an earlier version: what another installation has stays' test -x "$PREFIX/bin/kob-earlier" -a -x "$PREFIX/bin/kob-former"
+install remove
+holds 'an earlier version: what another installation has stays when this one is removed' test -x "$PREFIX/bin/kob-earlier" -a -x "$PREFIX/bin/kob-former"
+PROGRAM_PREFIX=kob- install remove
+holds 'an earlier version: removed by the next one, nothing of it is left' test "$(listed)" = "$before"
+
 # two installations below one folder
 install
 PROGRAM_PREFIX=kob- install
