@@ -451,5 +451,43 @@ static TEXTS: RwLock<Option<Arc<dyn Lookup + Send + Sync>>> = RwLock::new(None);
 /// [`Set::into_languages`](crate::Set::into_languages) makes one of a set and the user's languages. A server that
 /// answers in several languages passes each call the translations of its request instead.
 pub fn set_texts(texts: impl Lookup + Send + Sync + 'static) {
-    *TEXTS.write().unwrap_or_else(|it| it.into_inner()) = Some(Arc::new(texts));
+    let before = TEXTS
+        .write()
+        .unwrap_or_else(|it| it.into_inner())
+        .replace(Arc::new(texts));
+    // (once the lock is free: whatever ends with them may use the new ones)
+    drop(before);
+}
+
+#[cfg(test)]
+mod tests {
+    use crate::{set_texts, Catalogue, Lookup, Question};
+    use std::sync::{mpsc, Mutex};
+    use std::thread;
+    use std::time::Duration;
+
+    /// Translations whose last word is a message of the program.
+    struct Parting(Mutex<mpsc::Sender<String>>);
+
+    impl Lookup for Parting {
+        fn find(&self, _question: Question<'_>) -> Option<&str> {
+            None
+        }
+    }
+
+    impl Drop for Parting {
+        fn drop(&mut self) {
+            let _ = self.0.lock().unwrap().send(t!("Bye"));
+        }
+    }
+
+    #[test]
+    fn translations_that_are_replaced_may_use_the_new_ones() {
+        let (sender, receiver) = mpsc::channel();
+        thread::spawn(move || {
+            set_texts(Parting(Mutex::new(sender)));
+            set_texts(None::<Catalogue>);
+        });
+        assert_eq!(receiver.recv_timeout(Duration::from_secs(60)), Ok("Bye".to_string()));
+    }
 }
