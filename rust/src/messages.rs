@@ -265,7 +265,8 @@ pub const fn placeholders(message: &str, names: &[&str], optional: &str) -> u64 
 /// The index of the brace that ends the name at `start`.
 const fn name_end(bytes: &[u8], start: usize) -> usize {
     let mut end = start;
-    while end < bytes.len() && (bytes[end] == b'_' || bytes[end].is_ascii_alphanumeric()) {
+    // (a name may have any letter, as in Rust; one that is none has no argument)
+    while end < bytes.len() && (bytes[end] == b'_' || bytes[end].is_ascii_alphanumeric() || !bytes[end].is_ascii()) {
         end += 1;
     }
     assert!(

@@ -150,6 +150,14 @@ fn texts_may_be_in_texts() {
     assert_eq!(t!("Outside: {nested}", nested = Nested), "Outside: Inside");
 }
 
+#[test]
+fn a_name_may_have_any_letter() {
+    let größe = 3;
+    assert_eq!(t!("{größe} m", größe), "3 m");
+    let fr = compiled("msgid \"{größe} m\"\nmsgstr \"{größe} mètres\"\n");
+    assert_eq!(t!(fr; "{größe} m", größe), "3 mètres");
+}
+
 static REPORTS: Mutex<Vec<String>> = Mutex::new(Vec::new());
 
 fn keep(mismatch: &Mismatch) {
