@@ -71,6 +71,12 @@ macro_rules! t {
 ///
 /// The number may be of any integer type up to 64 bits; the plural form for -3 is that for 3. A form may omit `{n}`, as
 /// the one for 1 does above. Everything else is as for [`t!`]. The keyword of xgettext is `tn!:1,2`.
+///
+/// The number is shown as it is, so another argument `n` doesn't compile:
+///
+/// ```compile_fail,E0080
+/// kobdzila::tn!("{n} tomato", "{n} tomatoes", 1_000, n = "1,000");
+/// ```
 #[macro_export]
 macro_rules! tn {
     ($msgid:literal, $plural:literal, $n:expr $(, $($arguments:tt)*)?) => {
@@ -255,8 +261,12 @@ pub const fn placeholders(message: &str, names: &[&str], optional: &str) -> u64 
     }
     let mut i = 0;
     while i < names.len() {
-        let is_there = found & (1 << i) != 0 || is_same(names[i].as_bytes(), 0, names[i].len(), optional.as_bytes());
-        assert!(is_there, "an argument that the message doesn't name");
+        // (the number is the first one: a further argument of its name would never be shown)
+        let is_number = i == 0 && is_same(names[i].as_bytes(), 0, names[i].len(), optional.as_bytes());
+        assert!(
+            found & (1 << i) != 0 || is_number,
+            "an argument that the message doesn't name, or a second one of its name"
+        );
         i += 1;
     }
     found
