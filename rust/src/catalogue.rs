@@ -171,7 +171,7 @@ impl Catalogue {
         Ok(Catalogue(sys::Catalogue::from_mo(bytes)?))
     }
 
-    /// Compiles a PO text, which has to be UTF-8.
+    /// Compiles a PO text. If its header names another charset than UTF-8, such as ISO-8859-1, it is decoded.
     ///
     /// ```
     /// use kobdzila::{Catalogue, Options};
@@ -179,6 +179,10 @@ impl Catalogue {
     /// let text = "msgid \"Winter\"\nmsgstr \"Hiver\"\n";
     /// let fr = Catalogue::from_po(text.as_bytes(), Options::new().checked(true))?;
     /// assert_eq!(fr.gettext("Winter"), "Hiver");
+    ///
+    /// let header = b"msgid \"\"\nmsgstr \"Content-Type: text/plain; charset=ISO-8859-1\\n\"\n";
+    /// let text = [&header[..], b"msgid \"Summer\"\nmsgstr \"\xc9t\xe9\"\n"].concat();
+    /// assert_eq!(Catalogue::from_po(&text, Options::new())?.gettext("Summer"), "Été");
     /// # Ok::<(), kobdzila::Refused>(())
     /// ```
     pub fn from_po(text: &[u8], options: Options) -> Result<Catalogue, Refused> {
