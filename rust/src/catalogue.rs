@@ -156,6 +156,11 @@ pub struct Catalogue(sys::Catalogue);
 impl Catalogue {
     /// Opens an MO file from its bytes, which are copied.
     ///
+    /// # Errors
+    ///
+    /// The file isn't valid: a [`Fault`](crate::Fault) whose name begins with `Mo`. Or
+    /// [`Fault::Memory`](crate::Fault::Memory).
+    ///
     /// ```
     /// use kobdzila::{Catalogue, Fault, Options};
     ///
@@ -172,6 +177,11 @@ impl Catalogue {
     }
 
     /// Compiles a PO text. If its header names another charset than UTF-8, such as ISO-8859-1, it is decoded.
+    ///
+    /// # Errors
+    ///
+    /// The text isn't valid, or with [`Options::checked`] fails a check: a [`Fault`](crate::Fault) whose name begins with
+    /// `Po`, in most cases with a line. Or [`Fault::Memory`](crate::Fault::Memory).
     ///
     /// ```
     /// use kobdzila::{Catalogue, Options};
@@ -193,6 +203,11 @@ impl Catalogue {
     ///
     /// A regular file is read up to the size that it has when it is opened. A FIFO, a device and the like are read to
     /// their end, up to the size limit of the format; a FIFO that no writer has open counts as empty.
+    ///
+    /// # Errors
+    ///
+    /// Those of [`from_mo`](Catalogue::from_mo) or [`from_po`](Catalogue::from_po), and
+    /// [`Fault::Unreadable`](crate::Fault::Unreadable), whose source is the system's error.
     ///
     /// ```
     /// use std::error::Error;

@@ -53,6 +53,7 @@
 #![deny(missing_docs)]
 #![deny(unsafe_code)]
 #![deny(unsafe_op_in_unsafe_fn)]
+#![deny(clippy::missing_errors_doc)]
 #![deny(clippy::undocumented_unsafe_blocks)]
 
 mod catalogue;

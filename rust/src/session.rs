@@ -245,6 +245,10 @@ struct Process {
 impl Session {
     /// Starts the program `catsession`, which has to be on the PATH.
     ///
+    /// # Errors
+    ///
+    /// [`SessionError::Io`] if it can't be started.
+    ///
     /// ```no_run
     /// let session = kobdzila::Session::new()?;
     /// # Ok::<(), kobdzila::SessionError>(())
@@ -254,6 +258,10 @@ impl Session {
     }
 
     /// Starts the program with this name or path.
+    ///
+    /// # Errors
+    ///
+    /// [`SessionError::Io`] if it can't be started.
     ///
     /// ```
     /// assert!(kobdzila::Session::with_program("/no/such/catsession").is_err());
@@ -391,6 +399,10 @@ impl Session {
 
     /// Returns the translation of `msgid`.
     ///
+    /// # Errors
+    ///
+    /// Those of [`ask`](Session::ask).
+    ///
     /// ```no_run
     /// # use kobdzila::{Domain, Session};
     /// println!("{}", Session::new()?.gettext(Domain("garden"), "fr", "Winter")?);
@@ -401,6 +413,10 @@ impl Session {
     }
 
     /// Returns the plural form for `n`. For a message in a context use [`ask`](Session::ask).
+    ///
+    /// # Errors
+    ///
+    /// Those of [`ask`](Session::ask).
     ///
     /// ```no_run
     /// # use kobdzila::{Domain, Session};
