@@ -65,8 +65,9 @@ const UNREPORTED: Duration = Duration::from_secs(1);
 /// A file counts as complete once nobody is writing it and two checks find the same size and times. If there are both
 /// an MO file and a PO file, the one that was modified last is used. A file that is removed stays loaded.
 ///
-/// A file that is refused is reported once; the translations loaded before stay. File errors never stop the thread, nor
-/// does a panic in your function. Dropping the watch stops it.
+/// A file that is refused is reported once; the translations loaded before stay. One that can't be read, or for which
+/// there is no memory, is tried again at each check. File errors never stop the thread, nor does a panic in your function.
+/// Dropping the watch stops it.
 #[derive(Debug)]
 #[must_use = "dropping a watch stops it"]
 pub struct Watch {
@@ -383,13 +384,21 @@ struct Stamp {
     number: u64,
 }
 
-/// A file that was looked at. One that couldn't be read has no hash, and one that was refused isn't loaded.
+/// A file that was looked at. One that couldn't be read, or for which memory ran out, has no hash, and one that was
+/// refused isn't loaded.
 #[derive(Clone, Copy, Debug)]
 struct Seen {
     stamp: Stamp,
     hash: Option<u64>,
     has_messages: bool,
     is_loaded: bool,
+}
+
+impl Seen {
+    /// Whether the file, with this stamp now, has changed, or wasn't refused for what it has.
+    fn is_to_be_loaded(&self, stamp: Stamp) -> bool {
+        self.stamp != stamp || self.hash.is_none()
+    }
 }
 
 /// What the thread and `look` share.
@@ -496,7 +505,7 @@ impl Looking {
                 continue;
             }
             match stamp_of(&path) {
-                Some(stamp) if self.seen.get(&path).map_or(true, |it| it.stamp != stamp) => {
+                Some(stamp) if self.seen.get(&path).map_or(true, |it| it.is_to_be_loaded(stamp)) => {
                     found.insert(path, stamp);
                 }
                 _ => {}
@@ -659,9 +668,15 @@ impl Looking {
         is_same && !self.seen.contains_key(&other_format(path))
     }
 
-    fn refuse(&mut self, path: PathBuf, seen: Seen, why: Option<Refused>) -> bool {
-        self.seen.insert(path.clone(), seen);
+    fn refuse(&mut self, path: PathBuf, mut seen: Seen, why: Option<Refused>) -> bool {
         let file = FileRefused { path, why };
+        if file.fault() == Some(Fault::Memory) {
+            seen.hash = None;
+        }
+        let before = self.seen.insert(file.path.clone(), seen);
+        if seen.hash.is_none() && before.map_or(false, |it| it.hash.is_none() && it.stamp == seen.stamp) {
+            return false; // (it was reported when it was tried before)
+        }
         let report = &mut self.how.refused;
         let _ = catch_unwind(AssertUnwindSafe(|| report(&file)));
         false

@@ -1,5 +1,5 @@
-//! Loads, publishes and enters, and prints which of these calls found no memory. `tests/rust/rust.sh` of the repository
-//! refuses this program one request for memory after another; without that it prints nothing.
+//! Loads, publishes, enters and watches, and prints which of these calls found no memory. `tests/rust/rust.sh` of the
+//! repository refuses this program one request for memory after another; without that it prints nothing.
 
 use kobdzila::{Catalogue, Domain, Fault, Options, Refused, Store};
 
@@ -28,4 +28,29 @@ fn main() {
     let now = reader.enter_after(&notice).unwrap();
     assert_eq!(now.version(), 1);
     assert_eq!(now.languages(Domain("garden"), "fr").gettext("Winter"), "Hiver");
+    #[cfg(feature = "watch")]
+    watch(po).unwrap();
+}
+
+/// Watches a folder: a file that was refused without memory is loaded by the next look, though it is as it was.
+#[cfg(feature = "watch")]
+fn watch(po: &[u8]) -> std::io::Result<()> {
+    use kobdzila::{FileRefused, WatchOptions};
+    use std::{error::Error, fs, path::Path, sync::Arc, time::Duration};
+    let folder = Path::new(env!("CARGO_TARGET_TMPDIR")).join("memory");
+    fs::create_dir_all(folder.join("fr/LC_MESSAGES"))?;
+    fs::write(folder.join("fr/LC_MESSAGES/garden.po"), po)?;
+    let report = |file: &FileRefused| match file.source() {
+        Some(cause) => println!("watch: {cause}"),
+        None => println!("watch: {}", file.fault().unwrap()),
+    };
+    let start = || {
+        let store = Arc::new(Store::new());
+        let options = WatchOptions::new(&folder).settle(Duration::from_millis(1));
+        options.refused(report).start(&store).map(|watch| (store, watch))
+    };
+    let (store, watch) = start().or_else(|_| start())?;
+    watch.look();
+    assert_eq!(store.version(), 1);
+    Ok(())
 }
