@@ -14,7 +14,7 @@ use std::panic::{catch_unwind, AssertUnwindSafe};
 use std::path::{Path, PathBuf};
 use std::sync::{Arc, Mutex, MutexGuard};
 use std::thread::{self, JoinHandle};
-use std::time::{Duration, Instant};
+use std::time::{Duration, Instant, SystemTime};
 
 use crate::catalogue::{Catalogue, Options};
 use crate::names::Domain;
@@ -29,6 +29,8 @@ const PATIENCE: Duration = Duration::from_secs(5);
 const LONGEST_WRITE: Duration = Duration::from_secs(60);
 /// How often to look if the system doesn't report changes.
 const UNREPORTED: Duration = Duration::from_secs(1);
+/// How far apart two changes may be that get the same times: FAT keeps them in steps of two seconds.
+const COARSEST: Duration = Duration::from_secs(2);
 
 /// Loads the catalogues of a folder into a store, and reloads them when they change:
 /// `FOLDER/LOCALE/LC_MESSAGES/DOMAIN.mo` and `.po`.
@@ -384,20 +386,31 @@ struct Stamp {
     number: u64,
 }
 
+impl Stamp {
+    /// Whether the file has changed so lately that a further change may get the same times.
+    fn is_recent(&self) -> bool {
+        let now = SystemTime::now().duration_since(SystemTime::UNIX_EPOCH);
+        let changed = Duration::from_secs(self.changed.0.try_into().unwrap_or(0));
+        now.unwrap_or_default().saturating_sub(changed) <= COARSEST
+    }
+}
+
 /// A file that was looked at. One that couldn't be read, or for which memory ran out, has no hash, and one that was
 /// refused isn't loaded.
 #[derive(Clone, Copy, Debug)]
 struct Seen {
     stamp: Stamp,
     hash: Option<u64>,
+    /// Whether it had changed so lately that a further change may leave the stamp as it is.
+    is_recent: bool,
     has_messages: bool,
     is_loaded: bool,
 }
 
 impl Seen {
-    /// Whether the file, with this stamp now, has changed, or wasn't refused for what it has.
+    /// Whether the file, with this stamp now, has changed or may have, or wasn't refused for what it has.
     fn is_to_be_loaded(&self, stamp: Stamp) -> bool {
-        self.stamp != stamp || self.hash.is_none()
+        self.stamp != stamp || self.is_recent || self.hash.is_none()
     }
 }
 
@@ -593,6 +606,8 @@ impl Looking {
             if self.load_file(path.clone(), stamp) {
                 is_loaded = true;
                 if let Some((later, its)) = self.later(&path, stamp) {
+                    // (as one that is new: the store shows the other one now)
+                    self.seen.remove(&later);
                     self.load_file(later, its);
                 }
             }
@@ -613,6 +628,7 @@ impl Looking {
         let mut seen = Seen {
             stamp,
             hash: None,
+            is_recent: stamp.is_recent(),
             has_messages: self.has_messages(&path),
             is_loaded: false,
         };
@@ -664,8 +680,10 @@ impl Looking {
 
     /// Whether the file has the bytes that it had, and no file of the other format was loaded after it.
     fn is_shown(&self, path: &Path, now: &Seen) -> bool {
-        let is_same = self.seen.get(path).map_or(false, |it| it.hash == now.hash);
-        is_same && !self.seen.contains_key(&other_format(path))
+        let before = self.seen.get(path).filter(|it| it.hash == now.hash);
+        before.map_or(false, |it| {
+            it.stamp == now.stamp || !self.seen.contains_key(&other_format(path))
+        })
     }
 
     fn refuse(&mut self, path: PathBuf, mut seen: Seen, why: Option<Refused>) -> bool {

@@ -93,6 +93,20 @@ else
     --errors-for-leak-kinds=definite,indirect --max-stackframe=4000000 --fair-sched=yes "$program" --test-threads=1 \
     --skip a_program_that_is_missing
 fi
+# (as on an old server of NFS: a file that changes twice within a second, and keeps its size, has the same times)
+name='the Rust crate, a watch where times are whole seconds'
+image=$room/seconds.image
+mkdir "$room/seconds"
+if [ "$(id -u)" != 0 ] || ! tests/lib/needs mke2fs e2fsprogs; then
+  skipped "$name" 'only root can mount a file system, or there is no e2fsprogs'
+elif ! { truncate -s 4M "$image" && mke2fs -q -t ext3 -I 128 "$image" &&
+         unshare -m mount -o loop "$image" "$room/seconds"; } > "$room/log" 2>&1; then
+  skipped "$name" "a file system of this kind can't be mounted: $(why)"
+else
+  # shellcheck disable=SC2016
+  passes "$name" env TMPDIR="$room/seconds" unshare -m sh -c 'mount -o loop "$1" "$TMPDIR" && exec "$2" --exact "$3"' - \
+    "$image" "$program" watches::a_file_may_change_several_times_within_a_second
+fi
 host=$(rustc -vV | sed -n 's/^host: //p')
 asan=
 [ ! -f "$(rustc +nightly --print sysroot 2> /dev/null)/lib/rustlib/$host/lib/librustc-nightly_rt.asan.a" ] || asan=yes

@@ -288,6 +288,7 @@ fn of_an_mo_file_and_a_po_file_the_later_one_is_shown() {
     garden.write(PO, winter("po"));
     let watch = garden.watch();
     assert_eq!((garden.winter("fr"), garden.store.version()), ("po".into(), 2));
+    assert_eq!((watch.look(), garden.store.version()), (None, 2));
     garden.write(MO, compiled(&winter("mo")).mo_file());
     comes("mo", || garden.winter("fr") == "mo");
     drop(watch);
@@ -321,6 +322,18 @@ fn the_same_bytes_are_no_change() {
     garden.write(PO, winter("one"));
     assert_eq!(watch.look(), None);
     assert_eq!(garden.store.version(), 1);
+}
+
+/// (`tests/rust/rust.sh` of the repository also runs it where times are whole seconds)
+#[test]
+fn a_file_may_change_several_times_within_a_second() {
+    let garden = Garden::new("second");
+    garden.write(PO, winter("0"));
+    let _watch = garden.watch();
+    for text in ["1", "2", "3", "4"] {
+        garden.write(PO, winter(text));
+        comes(text, || garden.winter("fr") == text);
+    }
 }
 
 #[test]
