@@ -2,6 +2,7 @@
 
 use std::collections::hash_map::RandomState;
 use std::collections::{HashMap, HashSet};
+use std::env;
 use std::error::Error;
 use std::ffi::{OsStr, OsString};
 use std::fmt;
@@ -67,9 +68,9 @@ const COARSEST: Duration = Duration::from_secs(2);
 /// A file counts as complete once nobody is writing it and two checks find the same size and times. If there are both
 /// an MO file and a PO file, the one that was modified last is used. A file that is removed stays loaded.
 ///
-/// A file that is refused is reported once; the translations loaded before stay. One that can't be read, or for which
-/// there is no memory, is tried again at each check. File errors never stop the thread, nor does a panic in your function.
-/// Dropping the watch stops it.
+/// A file that is refused is reported once, by its absolute path; the translations loaded before stay. One that can't be
+/// read, or for which there is no memory, is tried again at each check. File errors never stop the thread, nor does a
+/// panic in your function or a change of the working directory. Dropping the watch stops it.
 #[derive(Debug)]
 #[must_use = "dropping a watch stops it"]
 pub struct Watch {
@@ -253,8 +254,12 @@ impl WatchOptions {
     /// let why = WatchOptions::new("no/such/folder").start(&store).unwrap_err();
     /// assert_eq!(why.kind(), std::io::ErrorKind::NotFound);
     /// ```
-    pub fn start(self, store: &Arc<Store>) -> io::Result<Watch> {
+    pub fn start(mut self, store: &Arc<Store>) -> io::Result<Watch> {
         fs::read_dir(&self.folder)?;
+        // (a server may change its working directory)
+        if self.folder.is_relative() {
+            self.folder = env::current_dir()?.join(self.folder);
+        }
         let (end, ends) = UnixStream::pair()?;
         let changes = Changes::new().ok().map(Arc::new);
         let mut looking = Looking {

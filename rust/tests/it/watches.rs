@@ -4,7 +4,7 @@ use std::env;
 use std::fs::{self, File};
 use std::io::Write;
 use std::os::unix::fs::symlink;
-use std::path::PathBuf;
+use std::path::{Path, PathBuf};
 use std::process::Command;
 use std::sync::{Arc, Mutex};
 use std::thread;
@@ -222,6 +222,15 @@ fn a_file_that_is_refused_is_reported_once_and_changes_nothing() {
 /// The variable with which a test calls itself as a program: the folder to watch.
 const WATCHED: &str = "KOBDZILA_WATCHED";
 
+/// What this test prints to standard error as a program with this folder. It ends well.
+fn printed_by(test: &str, folder: &Path) -> String {
+    let mut program = Command::new(env::current_exe().unwrap());
+    let said = program.args(["--exact", test]).env(WATCHED, folder).output().unwrap();
+    let text = String::from_utf8_lossy(&said.stderr).into_owned();
+    assert!(said.status.success(), "{text}{}", String::from_utf8_lossy(&said.stdout));
+    text
+}
+
 #[test]
 fn a_refusal_is_printed_with_its_cause() {
     if let Some(folder) = env::var_os(WATCHED) {
@@ -231,18 +240,27 @@ fn a_refusal_is_printed_with_its_cause() {
     let garden = Garden::new("printed");
     // (a file that even root can't read: nothing is at the address 0)
     symlink("/proc/self/mem", garden.path(PO)).unwrap();
-    let mut program = Command::new(env::current_exe().unwrap());
-    let said = program
-        .args(["--exact", "watches::a_refusal_is_printed_with_its_cause"])
-        .env(WATCHED, &garden.folder)
-        .output()
-        .unwrap();
-    assert!(said.status.success());
     let line = format!(
         "{}: file not readable: Input/output error (os error 5)\n",
         garden.path(PO).display()
     );
-    assert_eq!(String::from_utf8_lossy(&said.stderr), line);
+    let name = "watches::a_refusal_is_printed_with_its_cause";
+    assert_eq!(printed_by(name, &garden.folder), line);
+}
+
+#[test]
+fn a_relative_folder_stays_the_same_one() {
+    if let Some(folder) = env::var_os(WATCHED) {
+        let store = Arc::new(Store::new());
+        env::set_current_dir(&folder).unwrap();
+        let watch = WatchOptions::new(".").start(&store).unwrap();
+        env::set_current_dir("/").unwrap();
+        fs::write(Path::new(&folder).join(PO), winter("one")).unwrap();
+        comes("one", || watch.look().is_some() || store.version() == 1);
+        return;
+    }
+    let garden = Garden::new("relative");
+    printed_by("watches::a_relative_folder_stays_the_same_one", &garden.folder);
 }
 
 #[test]
