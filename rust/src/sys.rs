@@ -52,6 +52,12 @@ impl Refusal {
         }
     }
 
+    /// What the library says of an MO file, or of a PO file, that has more bytes than one may have.
+    #[cfg(feature = "watch")]
+    pub fn too_large(is_mo: bool) -> Refusal {
+        Refusal::without_line(if is_mo { KOB_MO_TOO_LARGE } else { KOB_PO_TOO_LARGE })
+    }
+
     /// What the library says of a file whose name it can't be given, since it contains a NUL.
     pub fn name_with_nul() -> Refusal {
         Refusal::unreadable(io::Error::from(io::ErrorKind::InvalidInput))

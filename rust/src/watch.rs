@@ -33,6 +33,10 @@ const UNREPORTED: Duration = Duration::from_secs(1);
 /// How far apart two changes may be that get the same times: FAT keeps them in steps of two seconds.
 const COARSEST: Duration = Duration::from_secs(2);
 
+/// The most bytes of an MO file and of a PO file: a larger one is refused, and isn't read for that.
+const MO_BYTES: u64 = 268_435_456;
+const PO_BYTES: u64 = 67_108_864;
+
 /// Loads the catalogues of a folder into a store, and reloads them when they change:
 /// `FOLDER/LOCALE/LC_MESSAGES/DOMAIN.mo` and `.po`.
 ///
@@ -637,6 +641,10 @@ impl Looking {
             has_messages: self.has_messages(&path),
             is_loaded: false,
         };
+        if stamp.size > if is_mo(&path) { MO_BYTES } else { PO_BYTES } {
+            let why = Refusal::too_large(is_mo(&path));
+            return self.refuse(path, seen, Some(why.into()));
+        }
         let bytes = match fs::read(&path) {
             Ok(bytes) => bytes,
             Err(why) => return self.refuse(path, seen, Some(Refusal::unreadable(why).into())),

@@ -264,6 +264,20 @@ fn a_relative_folder_stays_the_same_one() {
 }
 
 #[test]
+fn a_file_that_is_too_large_is_not_read() {
+    let garden = Garden::new("large");
+    // (a byte more than there may be, and far more than there is memory: a file of holes)
+    for (name, size) in [(PO, 1 << 40), (MO, (1 << 28) + 1)] {
+        File::create(garden.path(name)).unwrap().set_len(size).unwrap();
+    }
+    let _watch = garden.watch();
+    let mut refused = garden.refused();
+    refused.sort();
+    let wanted = [(MO, Fault::MoTooLarge), (PO, Fault::PoTooLarge)];
+    assert_eq!(refused, wanted.map(|(name, fault)| format!("{name}: {fault}")));
+}
+
+#[test]
 fn a_file_without_a_message_replaces_none() {
     let garden = Garden::new("empty");
     garden.write(PO, winter("one"));
