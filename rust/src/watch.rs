@@ -645,13 +645,14 @@ impl Looking {
             let why = Refusal::too_large(is_mo(&path));
             return self.refuse(path, seen, Some(why.into()));
         }
-        let bytes = match fs::read(&path) {
-            Ok(bytes) => bytes,
-            Err(why) => return self.refuse(path, seen, Some(Refusal::unreadable(why).into())),
-        };
+        let read = fs::read(&path);
         if stamp_of(&path) != Some(stamp) {
             return false;
         }
+        let bytes = match read {
+            Ok(bytes) => bytes,
+            Err(why) => return self.refuse(path, seen, Some(Refusal::unreadable(why).into())),
+        };
         let mut hasher = self.hashes.build_hasher();
         bytes.hash(&mut hasher);
         seen.hash = Some(hasher.finish());

@@ -278,6 +278,22 @@ fn a_file_that_is_too_large_is_not_read() {
 }
 
 #[test]
+fn a_file_that_is_removed_meanwhile_is_not_refused() {
+    let garden = Garden::new("meanwhile");
+    garden.write(PO, "msgid");
+    thread::sleep(Duration::from_millis(20));
+    let later = garden.path("fr/LC_MESSAGES/orchard.po");
+    fs::write(&later, winter("one")).unwrap();
+    let refused = Arc::clone(&garden.refused);
+    let options = garden.options().refused(move |file| {
+        refused.lock().unwrap().push(file.to_string());
+        let _ = fs::remove_file(&later);
+    });
+    let _watch = options.start(&garden.store).unwrap();
+    assert_eq!(garden.refused().len(), 1, "{:?}", garden.refused());
+}
+
+#[test]
 fn a_file_without_a_message_replaces_none() {
     let garden = Garden::new("empty");
     garden.write(PO, winter("one"));
