@@ -47,6 +47,11 @@ create table kobdzila.machine (name text primary key, version bigint not null, t
   seen timestamptz not null default clock_timestamp());
 """
 
+GOOD_CALLS = (b"gettext\t", b"pgettext\t\\n\\t\\\\\tc", b"ngettext\tc\td\t00018446744073709551615",
+              b"npgettext\ta\tb\tc\t0")
+BAD_CALLS = (b"gettext", b"gettext\tc\td", b"dgettext\tc", b"gettext\t\\x", b"pgettext\tc\\\tn", b"gettext\t\xff",
+             b"ngettext\tc\td\t-1", b"ngettext\tc\td\t18446744073709551616", b"npgettext\tc\td\te\t")
+
 
 class CommandCase(LogCase):
     def command(self, *words: str, database: str | None = None) -> tuple[int, str, str]:
@@ -408,6 +413,32 @@ class ProgramTest(CommandCase):
             self.assertEqual(daemon.wait(100), 0)
             self.assertEqual(self.log.status().machines, [])
             self.assertFalse(Path(f"{room}/socket").exists())
+
+    def asked(self, path: str, *lines: bytes) -> list[bytes]:
+        """What a daemon answers on its socket."""
+        with socket.socket(socket.AF_UNIX) as client:
+            client.settimeout(100)
+            client.connect(path)
+            client.sendall(b"".join(lines))
+            client.shutdown(socket.SHUT_WR)
+            with client.makefile("rb") as answer:
+                return answer.readlines()
+
+    @unittest.skipUnless(has_catsession(), NO_SESSION)
+    def test_programs_that_send_bad_lines(self) -> None:
+        """Others are answered on: their catsession, which ends at a bad line, doesn't get one."""
+        self.log.publish(loads(1))
+        good = b"ask\t0\tapp\tfr\tgettext\tk1\n"
+        with tempfile.TemporaryDirectory() as room:
+            daemon = self.program("follow", "--daemon", "--socket", f"{room}/socket")
+            until(lambda: Path(f"{room}/socket").exists())
+            for bad in (*(b"ask\t0\ta\tb\t" + words for words in BAD_CALLS), b"x", b"load\ta\tb\t-\t0", b"ask\t0",
+                        b"ask\t1\ta\tb\tgettext\tc"):
+                self.assertEqual(self.asked(f"{room}/socket", good, bad + b"\n", b"go\n"), [], bad)
+                self.assertEqual(self.asked(f"{room}/socket", good, b"go\n")[1:], [b"0\t2\tk1 at 1\n"], bad)
+            for words in GOOD_CALLS:
+                self.assertEqual(len(self.asked(f"{room}/socket", b"ask\t0\t\t\t" + words + b"\ngo\n")), 2, words)
+            self.assertIsNone(daemon.poll())
 
     @unittest.skipUnless(has_catsession(), NO_SESSION)
     def test_a_daemon_whose_log_lost_publishes(self) -> None:

@@ -4,6 +4,7 @@ from __future__ import annotations
 import argparse
 import contextlib
 import os
+import re
 import signal
 import socket
 import sys
@@ -13,12 +14,13 @@ from collections.abc import Iterator
 from pathlib import Path
 from typing import BinaryIO
 
-from .._session import Session, SessionEnded
+from .._session import MOST_LINES, TEXTS, Session, SessionEnded
 from ._follow import Follower
 from ._store import Behind
 from ._version import escaped
 
-MOST_LINES = 67_108_864
+NUMBER = re.compile("0*([0-9]{1,20})")
+ESCAPE = re.compile(r"\\[nt\\]")
 MOST_CLIENTS = 64  # of a socket, at once
 LISTEN_FDS_START = 3  # the first socket that systemd hands over (sd_listen_fds)
 TOLD_EACH = 5.0  # seconds between two notes to systemd
@@ -163,7 +165,7 @@ def answer_rounds(
     """Answer rounds until the questions end. Versions are the log's."""
     lines: list[bytes] = []
     size = 0
-    for number, line in enumerate(questions, 1):
+    for number, line in enumerate(iter(lambda: questions.readline(MOST_LINES + 1), b""), 1):
         if line.startswith(b"#") or line == b"\n":
             continue
         if line == b"go\n":
@@ -172,12 +174,26 @@ def answer_rounds(
             lines, size = [], 0
             continue
         size += len(line)
-        if not line.startswith(b"ask\t0\t") or not line.endswith(b"\n") or size > MOST_LINES:
+        if size > MOST_LINES or not is_question(line):
             raise Trouble(f"line {number}: neither a question to worker 0 nor `go`")
         lines.append(line)
     if lines:
         answers.write(answered(follower, session, lines, with_tokens))
         answers.flush()
+
+
+def is_question(line: bytes) -> bool:
+    """Whether catsession takes a line as a question to worker 0. A bad line would end it, and other programs ask it
+    too."""
+    try:
+        *fields, end = line.decode().replace("\n", "\t\n").split("\t")
+    except UnicodeDecodeError:
+        return False
+    call, texts = "".join(fields[4:5]), fields[5:]
+    if fields[:2] != ["ask", "0"] or end != "\n" or len(texts) != TEXTS.get(call):
+        return False
+    number = NUMBER.fullmatch(texts.pop() if call in ("ngettext", "npgettext") else "0")
+    return number is not None and int(number[1]) < 2**64 and "\\" not in ESCAPE.sub("", "\t".join(texts))
 
 
 def answered(follower: Follower, session: Session, lines: list[bytes], with_tokens: bool) -> bytes:
