@@ -441,8 +441,22 @@ class ProgramTest(CommandCase):
             self.assertIsNone(daemon.poll())
 
     @unittest.skipUnless(has_catsession(), NO_SESSION)
+    def test_a_daemon_whose_catsession_ends(self) -> None:
+        """It ends as well, so that systemd starts it again, and doesn't wait for the next publish to notice."""
+        self.log.publish(loads(1))
+        with tempfile.TemporaryDirectory() as room:
+            daemon = self.program("follow", "--daemon", "--socket", f"{room}/socket")
+            until(lambda: [it.version for it in self.log.status().machines] == [2])
+            children = Path(f"/proc/{daemon.pid}/task/{daemon.pid}/children").read_text(encoding="utf-8").split()
+            self.assertEqual(len(children), 1)
+            os.kill(int(children[0]), signal.SIGKILL)
+            self.assertEqual(daemon.wait(100), 1)
+            self.assertEqual(daemon.stderr.read(), b"kob-fleet: catsession ended with status -9\n")
+            self.assertEqual(self.log.status().machines, [])
+
+    @unittest.skipUnless(has_catsession(), NO_SESSION)
     def test_a_daemon_whose_log_lost_publishes(self) -> None:
-        """It answers on, and says so; its status is that of a machine that has stopped. A catsession that ends ends it."""
+        """It answers on, and says so; its status is that of a machine that has stopped."""
         self.log.publish(loads(1))
         self.log.publish(loads(2))
         with tempfile.TemporaryDirectory() as room:

@@ -52,7 +52,7 @@ def follow(options: argparse.Namespace) -> int:
                 on_version=lambda version: say(f"version {version}") if options.verbose else None)
             with follower, listening(options, follower, session):
                 if options.daemon:
-                    return serve(follower)
+                    return serve(follower, session)
                 answer_rounds(follower, session, sys.stdin.buffer, sys.stdout.buffer, options.tokens)
                 return 0 if follower.stopped is None else 1
     except Terminated:
@@ -64,14 +64,14 @@ def terminate(*_: object) -> None:
     raise Terminated
 
 
-def serve(follower: Follower) -> int:
-    """Report the state to systemd, until SIGTERM, or until the follower has stopped for good: a restart joins from
-    scratch.
+def serve(follower: Follower, session: Session) -> int:
+    """Report the state to systemd, until SIGTERM, or until the follower has stopped for good or catsession has ended: a
+    restart joins from scratch.
 
     If it is the log that has lost publishes, it keeps answering.
     """
     is_ready = False
-    while not follower.has_failed:
+    while not follower.has_failed and session._process.poll() is None:
         if not is_ready and follower.has_joined:
             is_ready = True
             notify("READY=1")
@@ -81,6 +81,8 @@ def serve(follower: Follower) -> int:
         with contextlib.suppress(Behind):
             follower.wait_for(0 if not is_ready else follower.version + 1, TOLD_EACH)
     notify("STOPPING=1")
+    if not follower.has_failed:
+        say(f"catsession ended with status {session._process.returncode}")
     return 1
 
 
