@@ -10,6 +10,7 @@ import re
 import shutil
 import signal
 import socket
+import stat
 import subprocess
 import sys
 import tempfile
@@ -46,7 +47,7 @@ create index load_sum on kobdzila.load (sum);
 create table kobdzila.machine (name text primary key, version bigint not null, trouble text,
   seen timestamptz not null default clock_timestamp());
 """
-
+TOP = Path(__file__).resolve().parents[2]
 GOOD_CALLS = (b"gettext\t", b"pgettext\t\\n\\t\\\\\tc", b"ngettext\tc\td\t00018446744073709551615",
               b"npgettext\ta\tb\tc\t0")
 BAD_CALLS = (b"gettext", b"gettext\tc\td", b"dgettext\tc", b"gettext\t\\x", b"pgettext\tc\\\tn", b"gettext\t\xff",
@@ -439,6 +440,20 @@ class ProgramTest(CommandCase):
             for words in GOOD_CALLS:
                 self.assertEqual(len(self.asked(f"{room}/socket", b"ask\t0\t\t\t" + words + b"\ngo\n")), 2, words)
             self.assertIsNone(daemon.poll())
+
+    @unittest.skipUnless(has_catsession(), NO_SESSION)
+    def test_who_may_ask_the_unit(self) -> None:
+        """Programs of all users, with the umask of the unit; the cache is the daemon's own."""
+        unit = (TOP / "packaging" / "systemd" / "kob-fleet-follow.service").read_text(encoding="utf-8")
+        umask = int("".join(re.findall("^UMask=([0-7]+)$", unit, re.M)) or "022", 8)
+        self.log.publish(loads(1))
+        with tempfile.TemporaryDirectory() as room:
+            Path(f"{room}/cache").mkdir(mode=0o700)
+            self.program("follow", "-m", "d", "--daemon", "--socket", f"{room}/socket", "--cache", f"{room}/cache",
+                         umask=umask)
+            until(lambda: Path(f"{room}/cache/d.cache").exists())
+            modes = {path.name: stat.S_IMODE(path.stat().st_mode) for path in Path(room).rglob("*")}
+            self.assertEqual(modes, {"socket": 0o666, "cache": 0o700, "d.cache": 0o600, "d.lock": 0o600})
 
     @unittest.skipUnless(has_catsession(), NO_SESSION)
     def test_a_daemon_whose_catsession_ends(self) -> None:
