@@ -5,6 +5,7 @@ import hashlib
 import os
 import pickle
 import threading
+import time
 import unittest
 import uuid
 from typing import Any
@@ -411,6 +412,19 @@ class LogTest(LogCase):
         self.sql("delete from kobdzila.load where version = 14")
         last = self.follower(machine="last")
         self.assertIn("the log has 1 loads after 0 up to 14, and not 2", until(lambda: last.trouble))
+
+    def test_compact_of_many_loads(self) -> None:
+        """It takes as long as there are loads, and not as there are pairs of them, in whatever order the rows are."""
+        self.log.publish([(f"d{at}", "fr", mo(1)) for at in range(4)])
+        self.sql("insert into kobdzila.load select it, 'd' || it %% 4, locale, sum, seal from kobdzila.load,"
+                 " generate_series(80000, 5, -1) it where version = 1")
+        self.sql("insert into kobdzila.publish select 80000, gen_random_uuid(), 79996, history, note, published, epoch"
+                 " from kobdzila.publish")
+        self.sql("analyze kobdzila.load")
+        begun = time.monotonic()
+        self.assertEqual(self.log.compact(), 80000)
+        self.assertLess(time.monotonic() - begun, 15)
+        self.assertEqual(self.sql("select version from kobdzila.load order by 1"), [(it,) for it in range(79997, 80001)])
 
     def test_status(self) -> None:
         follower, other = self.follower(machine="one"), self.follower(machine="two")

@@ -643,9 +643,9 @@ def compacted(connection: Watched, to: int | None, seen_within: float) -> int:
         (done,) = one(connection.execute("select cut from kobdzila.log"))
         cut = max(done, min(version, slowest, version if to is None else to))
         connection.execute(
-            "delete from kobdzila.load o where o.version <= %(cut)s and exists (select from kobdzila.load n where"
-            " n.domain = o.domain and n.locale = o.locale and n.version > o.version and n.version <= %(cut)s)",
-            {"cut": cut})
+            "delete from kobdzila.load o using (select domain, locale, max(version) as version from kobdzila.load"
+            " where version <= %s group by domain, locale) last where o.domain = last.domain and o.locale = last.locale"
+            " and o.version < last.version", (cut,))
         connection.execute(
             "update kobdzila.log set cut = %(cut)s,"
             " kept = (select count(*) from kobdzila.load where version <= %(cut)s)", {"cut": cut})
