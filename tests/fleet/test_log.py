@@ -426,6 +426,17 @@ class LogTest(LogCase):
         self.assertLess(time.monotonic() - begun, 15)
         self.assertEqual(self.sql("select version from kobdzila.load order by 1"), [(it,) for it in range(79997, 80001)])
 
+    def test_a_compact_that_takes_long(self) -> None:
+        """It has more time than what only reads."""
+        self.log.publish(loads(1))
+        self.log.publish(loads(2))
+        self.sql("create function kobdzila.wait() returns trigger language plpgsql as"
+                 " 'begin perform pg_sleep(1); return old; end'")
+        self.sql("create trigger slow before delete on kobdzila.file for each row execute function kobdzila.wait()")
+        with mock.patch.object(_log, "ANSWER_WITHIN", 0.3):
+            self.assertEqual(self.log.compact(), 4)
+        self.assertEqual(self.sql("select count(*) from kobdzila.file"), [(1,)])
+
     def test_status(self) -> None:
         follower, other = self.follower(machine="one"), self.follower(machine="two")
         self.log.publish(loads(1))

@@ -4,7 +4,6 @@ from __future__ import annotations
 import contextlib
 import datetime
 import hashlib
-import math
 import os
 import re
 import threading
@@ -33,6 +32,7 @@ RETRIED = re.compile("08|40|57|25006|23503|55P03")
 OTHER_LAYOUT = (errors.UndefinedTable, errors.UndefinedColumn)
 DAY = 86_400.0
 ANSWER_WITHIN = 30.0  # seconds for what only reads
+COMPACT_WITHIN = 600.0  # as long as the server lets a statement take
 GRACE = 0.4  # seconds by which a server may be later than its own limits
 LOOK_WITHIN = 0.5  # seconds that a look at the machines has, even if less is left
 SILENT = 30.0  # seconds without a report, which comes every ten
@@ -273,7 +273,7 @@ class Log(Closing):
         """
         end, wanted = time.monotonic() + within, version_of(version)
         while True:
-            found = self._once(status_of, max(end, time.monotonic() + LOOK_WITHIN))
+            found = self._once(status_of, min(ANSWER_WITHIN, max(LOOK_WITHIN, end - time.monotonic())))
             if wanted.epoch and wanted.epoch != found.version.epoch:
                 raise ValueError(f"the log is in epoch {found.version.epoch}, and not in {wanted.epoch}")
             lack = [it for it in found.machines if it.seen <= seen_within
@@ -288,9 +288,9 @@ class Log(Closing):
         Up to that version only the last load of each domain and locale is kept. It is the version of the slowest
         machine of those that reported in the last `seen_within` seconds, or `to`, if that is less. A machine at an
         earlier version takes the last loads when it next checks. The rows of machines whose last report is older are
-        deleted.
+        deleted. It may take ten minutes, in which nothing is published.
         """
-        return self._once(lambda connection: compacted(connection, to, seen_within))
+        return self._once(lambda connection: compacted(connection, to, seen_within), COMPACT_WITHIN)
 
     def restore(self, note: str = "", *, within: float = 30.0) -> Version:
         """Begin a new epoch, after the log was restored from a backup, and return the version in it.
@@ -359,9 +359,9 @@ class Log(Closing):
             return why
         return trouble
 
-    def _once(self, work: Callable[[Watched], Answer], end: float = math.inf) -> Answer:
+    def _once(self, work: Callable[[Watched], Answer], within: float | None = None) -> Answer:
         """Do work that may be repeated. A connection that was lost since its last use is replaced."""
-        end = min(end, time.monotonic() + ANSWER_WITHIN)
+        end = time.monotonic() + (ANSWER_WITHIN if within is None else within)
         while True:
             was_used = bool(self._free)
             try:
