@@ -126,13 +126,15 @@ class StatusTest(CommandCase):
         self.assertEqual(self.log.status().machines, [])
 
     def test_what_a_dead_process_left(self) -> None:
-        """The next follower of the name on this host deletes it. A row of another host stays."""
+        """The next follower of the name on this host deletes it, even if it has the same number, as in a container that
+        was restarted. A row of another host stays."""
         host = socket.gethostname()
         child = os.fork()
         if child == 0:
             os._exit(0)
         os.waitpid(child, 0)
         self.row("web1", f"{host}:{child}:0000")
+        self.row("web1", f"{host}:{os.getpid()}:0000")
         self.row("web1", f"{host}:1:0000")
         self.row("web1", f"other:{child}:0000")
         self.row("web2", f"{host}:{child}:0000")

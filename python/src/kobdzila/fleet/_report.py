@@ -6,6 +6,7 @@ import os
 import secrets
 import socket
 import time
+import weakref
 from collections.abc import Iterator
 from typing import NamedTuple
 
@@ -49,6 +50,7 @@ class Reporter:
         self._at = self._try_at = 0.0
         self._pause = FIRST_PAUSE
         self._has_cleaned = self._is_refused = False
+        REPORTERS.add(self)
 
     def is_due(self, report: Report) -> bool:
         """Whether there is something to write."""
@@ -126,6 +128,9 @@ class Reporter:
         self._has_cleaned = False  # (other children may have ended since the parent looked)
 
 
+REPORTERS: weakref.WeakSet[Reporter] = weakref.WeakSet()
+
+
 @contextlib.contextmanager
 def planned_once(connection: Watched) -> Iterator[None]:
     """Make the server keep the plans of statements, unless a pooler moves them between sessions."""
@@ -141,9 +146,15 @@ def process_name() -> str:
 
 
 def is_running(process: str) -> bool:
-    """Whether a process of this host is running. One that can't be checked counts as running."""
+    """Whether a process of this host is running. One that can't be checked counts as running.
+
+    In a container each process has the number of the one before the restart, which has ended.
+    """
     try:
-        os.kill(int(process.split(":")[1]), 0)
+        number = int(process.split(":")[1])
+        if number == os.getpid():
+            return process in [it.process for it in list(REPORTERS)]
+        os.kill(number, 0)
     except ProcessLookupError:
         return False
     except (OSError, ValueError, IndexError):
