@@ -296,6 +296,22 @@ class CacheTest(LogCase):
         until(lambda: self.cached() == 4)
         until(lambda: machine.health().trouble is None)
 
+    def test_a_cache_whose_folder_cannot_be_made(self) -> None:
+        """The machine follows, and says that a restart would find nothing."""
+        self.log.publish(loads(1))
+        self.folder.write_text("", encoding="utf-8")
+        self.folder = self.folder / "deeper"
+        said: list[str] = []
+        machine = self.machine(on_trouble=said.append)
+        machine.wait_for(2, 100)
+        text = until(lambda: next((it for it in said if it.startswith("the cache can't be written: ")), None))
+        self.assertIn(str(self.folder), text)
+        until(lambda: [it.trouble for it in self.log.status().machines] == [text])
+        self.folder.parent.unlink()
+        until(lambda: self.cached() == 2)
+        until(lambda: machine.health().trouble is None)
+        self.assertEqual(said.count(text), 1)
+
     def test_one_process_writes_and_another_takes_its_place(self) -> None:
         self.log.publish(loads(1))
         first = self.written(2)

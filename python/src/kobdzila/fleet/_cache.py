@@ -113,23 +113,27 @@ class Cache:
         """Remember what is new on the machine, for the next write."""
         if all_of_them:
             self._pieces, self.is_whole = {}, True
-        if not self.is_ours():
+        is_ours = False
+        with contextlib.suppress(OSError):  # (whoever writes later is told)
+            is_ours = self.is_ours()
+        if not is_ours:
             self.is_whole = False
             return
         self._pending.update(((it.domain, it.locale), it) for it in loads)
         self._is_new = True
 
     def is_ours(self) -> bool:
-        """Whether this process is the one that writes; if so, it stays the writer until it ends."""
+        """Whether this process is the one that writes; if so, it stays so until it ends. OSError if none can write."""
         if self._lock < 0:
-            with contextlib.suppress(OSError):
-                self.folder.mkdir(mode=0o700, parents=True, exist_ok=True)
-                handle = os.open(self.path.with_suffix(".lock"), os.O_RDWR | os.O_CREAT | os.O_CLOEXEC, 0o600)
-                try:
-                    fcntl.flock(handle, fcntl.LOCK_EX | fcntl.LOCK_NB)
-                except OSError:
-                    os.close(handle)
+            self.folder.mkdir(mode=0o700, parents=True, exist_ok=True)
+            handle = os.open(self.path.with_suffix(".lock"), os.O_RDWR | os.O_CREAT | os.O_CLOEXEC, 0o600)
+            try:
+                fcntl.flock(handle, fcntl.LOCK_EX | fcntl.LOCK_NB)
+            except OSError as why:
+                os.close(handle)
+                if not isinstance(why, BlockingIOError):
                     raise
+            else:
                 self._lock = handle
         return self._lock >= 0
 

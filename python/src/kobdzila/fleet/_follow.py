@@ -348,9 +348,10 @@ class Follower(Closing):
             self._player.write_cache(connection)
             self._cache_trouble = None if self._player.has_cache else self._cache_trouble
         except (OSError, Damaged) as why:
-            if self._cache_trouble != str(why):
-                self._cache_trouble = str(why)
-                self._call(self._on_trouble, f"the cache can't be written: {why}")
+            text = f"the cache can't be written: {why}"
+            if self._cache_trouble != text:
+                self._cache_trouble = text
+                self._call(self._on_trouble, text)
 
     def _wait(self, connection: Watched) -> None:
         """Wait for a notice, the end, or the time of the next look. Meanwhile report, and write the cache."""
