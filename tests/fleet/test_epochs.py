@@ -312,6 +312,20 @@ class CacheTest(LogCase):
         until(lambda: machine.health().trouble is None)
         self.assertEqual(said.count(text), 1)
 
+    def test_what_did_not_fit(self) -> None:
+        """It is removed, since others need the room, and is tried again after a pause that is longer than a write."""
+        def failing(handle: int) -> None:
+            time.sleep(0.2)
+            raise OSError(28, "No space left on device")
+
+        cache = _cache.Cache(self.folder, "m")
+        self.addCleanup(cache.close)
+        cache.keep([Played("app", "fr", b"x", hashlib.sha256(b"x").digest())])
+        with mock.patch.object(os, "fsync", failing), self.assertRaisesRegex(OSError, "No space .*/m.new"):
+            cache.write(_cache.Position("e", 1, b"h"), [])
+        self.assertEqual([path.name for path in self.folder.iterdir()], ["m.lock"])
+        self.assertGreater(cache.seconds_left(), 1.5)
+
     def test_one_process_writes_and_another_takes_its_place(self) -> None:
         self.log.publish(loads(1))
         first = self.written(2)

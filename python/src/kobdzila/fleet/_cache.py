@@ -66,6 +66,7 @@ class Cache:
     def __init__(self, folder: str | os.PathLike[str], name: str) -> None:
         self.folder = Path(folder)
         self.path = self.folder / f"{quote(name, safe='')}.cache"
+        self._new = self.path.with_suffix(".new")
         self._pieces: dict[Pair, Piece] = {}
         self._file = self._lock = -1
         self._pending: dict[Pair, Played] = {}
@@ -146,22 +147,29 @@ class Cache:
         if not self.is_whole or self.seconds_left() != 0.0:
             return
         begun = time.monotonic()
-        self._due = begun + 1.0
-        new = self.path.with_suffix(".new")
-        handle = os.open(new, os.O_RDWR | os.O_CREAT | os.O_TRUNC | os.O_CLOEXEC, 0o600)
+        try:
+            self._replace(position, past)
+        except OSError as why:
+            with contextlib.suppress(OSError):  # (others need the room)
+                self._new.unlink()
+            why.filename = why.filename or str(self._new)
+            self._due = max(begun + 1.0, next_after(begun))
+            raise
+        self._pending.clear()
+        self._is_new = False
+        sync(self.folder)
+        self._due = next_after(begun)
+
+    def _replace(self, position: Position, past: Sequence[str]) -> None:
+        handle = os.open(self._new, os.O_RDWR | os.O_CREAT | os.O_TRUNC | os.O_CLOEXEC, 0o600)
         try:
             pieces = self._fill(handle, position, past, sorted(self._pieces.keys() | self._pending.keys()))
             os.fsync(handle)
-            os.replace(new, self.path)
+            os.replace(self._new, self.path)
         except BaseException:
             os.close(handle)
             raise
         self._take(handle, pieces)
-        self._pending.clear()
-        self._is_new = False
-        sync(self.folder)
-        done = time.monotonic()
-        self._due = done + min(LONGEST, SHARE * (done - begun))
 
     def _fill(self, handle: int, position: Position, past: Sequence[str], pairs: Sequence[Pair]) -> dict[Pair, Piece]:
         """Write a complete cache, and return where its files are."""
@@ -205,6 +213,12 @@ class Cache:
         self.close()
         self._pending.clear()
         self._pieces, self._is_new, self.is_whole = {}, False, False
+
+
+def next_after(begun: float) -> float:
+    """When the next write may begin, after one that began then and has just ended."""
+    done = time.monotonic()
+    return done + min(LONGEST, SHARE * (done - begun))
 
 
 def written(handle: int, data: bytes) -> None:
