@@ -331,6 +331,33 @@ class SharedTest(LogCase):
             self.assertEqual(self.log.publish(loads(1), within=20), 2)
         self.assertEqual(self.sql("select count(*) from kobdzila.epoch"), [(1,)])
 
+    def test_who_waits_for_the_lock_does_not_hold_it(self) -> None:
+        """Though his transaction is the older one."""
+        query, address = "select layout from kobdzila.log for update", servers.shared().address
+        with psycopg.connect(address, application_name="waits") as one, psycopg.connect(
+                address, application_name="holds") as two:
+            one.execute("select")
+            two.execute(query)
+            waiting = threading.Thread(target=one.execute, args=[query], daemon=True)
+            waiting.start()
+            until(lambda: self.sql("select 1 from pg_stat_activity where wait_event_type = 'Lock'"))
+            with self.assertRaisesRegex(psycopg.OperationalError, r"lock is held by process \d+ .*\(holds, idle"):
+                self.log.publish(loads(1), within=0.5)
+            two.rollback()
+            waiting.join(60)
+
+    def test_a_lock_that_another_user_holds(self) -> None:
+        """The server says no more of him than his name, his process and his program."""
+        self.log.init(roles=True)
+        self.sql("do $$ begin create role pub login; exception when duplicate_object then null; end $$")
+        self.sql("grant kobdzila_publisher to pub")
+        address = servers.shared().address
+        with psycopg.connect(address, application_name="an operator") as other:
+            other.execute("select layout from kobdzila.log for update")
+            with Log(address.replace("user=postgres", "user=pub")) as log, self.assertRaisesRegex(
+                    psycopg.OperationalError, r"of the server \(an operator, user postgres\)\Z"):
+                log.publish(loads(1), within=0.5)
+
     def test_a_publisher_that_is_stopped_lets_go_of_the_lock(self) -> None:
         """The server ends its transaction after ten seconds of silence; here after less."""
         with mock.patch.object(Log, "close", lambda self: None), Log(servers.shared().address) as log:

@@ -464,15 +464,20 @@ def limit_transaction(connection: Connection, end: float) -> None:
 
 
 def holders(connection: Connection) -> str:
-    """Describe who holds the log's lock."""
-    rows = connection.execute(
+    """Describe who holds the log's lock, and doesn't wait himself. The server tells some roles less of others."""
+    row = connection.execute(
         "select a.pid, a.application_name, case a.wait_event when 'SyncRep' then 'waits for the synchronous standby'"
-        " else a.state end, extract(epoch from clock_timestamp() - a.xact_start)::float8"
-        " from pg_stat_activity a where a.pid <> pg_backend_pid() and exists (select from pg_locks l where l.pid = a.pid"
-        " and l.relation = to_regclass('kobdzila.log') and l.mode in ('RowShareLock', 'RowExclusiveLock')) order by 4 desc")
-    said = [f"process {pid} of the server ({name or 'no name'}, {state}, for {since or 0:.0f} s)"
-            for pid, name, state, since in rows]
-    return "the log's lock is held by " + (said[0] if said else "a session that has ended meanwhile")
+        " else coalesce(a.state, 'user ' || a.usename) end,"
+        " extract(epoch from clock_timestamp() - a.xact_start)::float8 as since"
+        " from pg_stat_activity a where a.pid <> pg_backend_pid() and a.datname = current_database() and exists"
+        " (select from pg_locks l where l.pid = a.pid and l.relation = to_regclass('kobdzila.log')"
+        " and l.mode in ('RowShareLock', 'RowExclusiveLock')) order by exists"
+        " (select from pg_locks w where w.pid = a.pid and not w.granted), since desc nulls last limit 1").fetchone()
+    if row is None:
+        return "the log's lock is held by a session that has ended meanwhile"
+    pid, name, state, since = row
+    age = "" if since is None else f", for {since:.0f} s"
+    return f"the log's lock is held by process {pid} of the server ({name or 'no name'}, {state}{age})"
 
 
 def check_load(load: Load) -> None:
