@@ -424,7 +424,8 @@ class LogTest(LogCase):
         begun = time.monotonic()
         self.assertEqual(self.log.compact(), 80000)
         self.assertLess(time.monotonic() - begun, 15)
-        self.assertEqual(self.sql("select version from kobdzila.load order by 1"), [(it,) for it in range(79997, 80001)])
+        last = self.sql("select version from kobdzila.load order by 1")
+        self.assertEqual(last, [(it,) for it in range(79997, 80001)])
 
     def test_a_compact_that_takes_long(self) -> None:
         """It has more time than what only reads."""

@@ -625,6 +625,21 @@ class StandbyTest(unittest.TestCase):
                     self.assertTrue(it._connection.is_standby)
                 until(lambda: sorted((it.name, it.version) for it in log.status().machines) == [("both", 2), ("told", 2)])
 
+    def test_a_primary_that_cannot_be_told(self) -> None:
+        """The machine follows its standby, and says once why nobody sees it."""
+        nowhere, said = f"host=127.0.0.1 port={servers.free_port()}", []
+        with servers.pair() as (first, second), Log(first.address) as log:
+            log.init()
+            log.publish(loads(1))
+            with Follower(Catalogues(), second.address + " target_session_attrs=any", "m", report_to=nowhere,
+                          on_trouble=said.append) as follower:
+                follower.wait_for(2, 100)
+                until(lambda: said)
+                follower.wait_for(log.publish(loads(2)), 100)
+                self.assertEqual((follower.trouble, log.status().machines), (None, []))
+        self.assertEqual(len(said), 1)
+        self.assertRegex(said[0], r"\Akob-fleet status doesn't show this machine: 127\.0\.0\.1:\d+: connection failed")
+
     def test_how_much_a_session_takes(self) -> None:
         """The time to keep a load doesn't grow with those that are kept."""
         session = kobdzila.Session.__new__(kobdzila.Session)

@@ -87,6 +87,7 @@ class Follower(Closing):
         self._reporter = Reporter(self.machine, report_to or primary_of(database))
         self._trouble: str | None = None
         self._cache_trouble: str | None = None
+        self._unreported: str | None = None
         self._stopped: Exception | None = None
         self._refusals = self._connections = self._restarts = 0
         self._looked_at: float | None = None
@@ -344,6 +345,10 @@ class Follower(Closing):
         report = self._report()
         if self._reporter.is_due(report):
             self._reporter.write(connection, report, self._woken)
+            if self._reporter.trouble != self._unreported:
+                self._unreported = self._reporter.trouble
+                if self._unreported is not None:
+                    self._call(self._on_trouble, f"kob-fleet status doesn't show this machine: {self._unreported}")
         try:
             self._player.write_cache(connection)
             self._cache_trouble = None if self._player.has_cache else self._cache_trouble

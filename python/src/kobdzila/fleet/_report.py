@@ -12,7 +12,7 @@ from typing import NamedTuple
 
 import psycopg
 
-from ._connect import Watched, connect
+from ._connect import Interrupted, Watched, connect
 from ._version import Version
 
 REPORT_EACH = 1.0  # the least time between two reports of a machine
@@ -39,7 +39,7 @@ class Reporter:
     """Writes the row of one follower.
 
     A standby accepts no writes. Then the row is written to the primary, through a connection of its own to `database`,
-    unless that is None.
+    unless that is None. `trouble` says why the row can't be written, or is None.
     """
 
     def __init__(self, machine: str, database: str | None) -> None:
@@ -49,7 +49,8 @@ class Reporter:
         self._last: Report | None = None
         self._at = self._try_at = 0.0
         self._pause = FIRST_PAUSE
-        self._has_cleaned = self._is_refused = False
+        self._has_cleaned = False
+        self.trouble: str | None = None
         REPORTERS.add(self)
 
     def is_due(self, report: Report) -> bool:
@@ -75,8 +76,10 @@ class Reporter:
             try:
                 self._write(self._primary(wake), report)
                 self._pause = FIRST_PAUSE
-            except psycopg.Error:
+            except psycopg.Error as why:
                 self.close()
+                if not isinstance(why, Interrupted):
+                    self.trouble = str(why) or type(why).__name__
                 self._try_at, self._pause = time.monotonic() + self._pause, min(LAST_PAUSE, 2 * self._pause)
 
     def _primary(self, wake: int) -> Watched:
@@ -97,6 +100,7 @@ class Reporter:
                 " trouble = excluded.trouble, loads = excluded.loads, refusals = excluded.refusals,"
                 " reconnects = excluded.reconnects, seen = excluded.seen",
                 (self.machine, self.process, report.epoch, int(report.version), *report[2:]))
+        self.trouble = None
 
     def _clean(self, connection: Watched) -> None:
         """Delete the rows of this machine's processes that have ended."""
