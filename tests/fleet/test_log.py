@@ -130,6 +130,25 @@ class LogTest(LogCase):
                 self.assertEqual(self.text(follower), "k1 at 1")
                 until(lambda: [(it.name, it.version) for it in log.status().machines] == [("żółw", version)])
 
+    def test_names_that_the_database_lacks_characters_for(self) -> None:
+        """Such a machine follows without pause, and says why nobody sees it."""
+        self.sql("drop database if exists latin with (force)")
+        self.sql("create database latin template template0 encoding 'LATIN1'")
+        latin = self.address.replace("dbname=postgres", "dbname=latin")
+        for address, name, why in ((latin, "żółw", "has no equivalent in encoding \"LATIN1\""),
+                                   (latin, "m\udcff", "can't encode"), (self.address, "m\0", "cannot contain NUL")):
+            said: list[str] = []
+            with Log(address) as log:
+                log.init()
+                with Follower(Catalogues(), address, name, on_trouble=said.append) as follower:
+                    for number in (1, 2):
+                        follower.wait_for(log.publish(loads(number)), 100)
+                    until(lambda: said)
+                    time.sleep(0.5)
+                    health = follower.health()
+            self.assertEqual((len(said), health.state, health.restarts, health.reconnects), (1, "follows", 0, 0), said)
+            self.assertRegex(said[0], f"\\Akob-fleet status doesn't show this machine: .*{why}")
+
     def test_two_publishers_at_once(self) -> None:
         versions: list[list[int]] = [[], []]
         follower = self.follower()

@@ -90,17 +90,20 @@ class Reporter:
 
     def _write(self, connection: Watched, report: Report) -> None:
         connection.limit = REPORT_WITHIN
-        with contextlib.suppress(*REFUSALS), planned_once(connection):
-            if not self._has_cleaned:
-                self._clean(connection)
-            connection.execute(
-                "insert into kobdzila.machine (name, process, epoch, version, state, trouble, loads, refusals,"
-                " reconnects) values (%s, %s, %s, %s, %s, %s, %s, %s, %s) on conflict (name, process) do update"
-                " set epoch = excluded.epoch, version = excluded.version, state = excluded.state,"
-                " trouble = excluded.trouble, loads = excluded.loads, refusals = excluded.refusals,"
-                " reconnects = excluded.reconnects, seen = excluded.seen",
-                (self.machine, self.process, report.epoch, int(report.version), *report[2:]))
-        self.trouble = None
+        try:
+            with contextlib.suppress(*REFUSALS), planned_once(connection):
+                if not self._has_cleaned:
+                    self._clean(connection)
+                connection.execute(
+                    "insert into kobdzila.machine (name, process, epoch, version, state, trouble, loads, refusals,"
+                    " reconnects) values (%s, %s, %s, %s, %s, %s, %s, %s, %s) on conflict (name, process) do update"
+                    " set epoch = excluded.epoch, version = excluded.version, state = excluded.state,"
+                    " trouble = excluded.trouble, loads = excluded.loads, refusals = excluded.refusals,"
+                    " reconnects = excluded.reconnects, seen = excluded.seen",
+                    (self.machine, self.process, report.epoch, int(report.version), *report[2:]))
+            self.trouble = None
+        except (psycopg.DataError, UnicodeEncodeError) as why:  # (the database, or UTF-8, lacks a character)
+            self.trouble = str(why)
 
     def _clean(self, connection: Watched) -> None:
         """Delete the rows of this machine's processes that have ended."""
@@ -116,7 +119,7 @@ class Reporter:
         to = connection if not connection.is_standby else self._connection
         if to is not None and not to.closed:
             to.wake, to.end = -1, time.monotonic() + GOODBYE_WITHIN
-            with contextlib.suppress(psycopg.Error):
+            with contextlib.suppress(psycopg.Error, UnicodeEncodeError):
                 to.execute("delete from kobdzila.machine where name = %s and process = %s", (self.machine, self.process))
 
     def close(self) -> None:
