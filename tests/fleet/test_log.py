@@ -70,7 +70,8 @@ class LogTest(LogCase):
 
     def test_what_psycopg_refuses_is_not_tried_again(self) -> None:
         troubles: list[str] = []
-        for address, note in (("hots=db1", ""), (self.address, "a\0b")):
+        wrong = ("hots=db1", f"{self.address} target_session_attrs=primry", f"{self.address} connect_timeout=5s")
+        for address, note in (*((it, "") for it in wrong), (self.address, "a\0b")):
             with (Log(address, on_trouble=troubles.append) as log,
                   self.assertRaises((psycopg.ProgrammingError, psycopg.DataError))):
                 log.publish(loads(1), note=note, within=3)

@@ -29,6 +29,7 @@ SILENT_FOR = 60.0  # for so long a host that was silent is tried after the other
 ENVIRONMENT = {"host": "PGHOST", "hostaddr": "PGHOSTADDR", "port": "PGPORT", "connect_timeout": "PGCONNECT_TIMEOUT",
                "target_session_attrs": "PGTARGETSESSIONATTRS", "load_balance_hosts": "PGLOADBALANCEHOSTS"}
 PLACES = ("host", "hostaddr", "port")
+ATTRIBUTES = ("any", "read-write", "read-only", "primary", "standby", "prefer-standby")
 # What libpq can look for itself, among the hosts of a service
 FOUND_BY_LIBPQ = ("any", "read-write", *(("primary", "standby", "read-only") if pq.version() >= 140000 else ()))
 USUAL = {"keepalives_idle": "10", "keepalives_interval": "3", "keepalives_count": "3", "tcp_user_timeout": "10000",
@@ -138,8 +139,9 @@ def connect(
     """
     given = parameters(database)
     wanted = given.pop("target_session_attrs", attributes)
-    seconds = float(given.pop("connect_timeout", CONNECT_TIMEOUT))
-    within = patience * seconds if seconds > 0 else math.inf
+    if wanted not in ATTRIBUTES:
+        raise psycopg.ProgrammingError(f'invalid target_session_attrs value: "{wanted}"')
+    within = patience * timeout_in(given)
     failures: list[str] = []
     for it in ("standby", "any") if wanted == "prefer-standby" else (wanted,):
         for server in servers_of(given, wake, end, within, failures):
@@ -152,6 +154,16 @@ def connect(
             if time.monotonic() >= end:
                 break
     raise psycopg.OperationalError("; ".join(dict.fromkeys(failures)) or "no server is named")
+
+
+def timeout_in(given: dict[str, str]) -> float:
+    """Take the time for each address out of the parameters."""
+    text = given.pop("connect_timeout", CONNECT_TIMEOUT)
+    try:
+        seconds = float(text)
+    except ValueError as why:
+        raise psycopg.ProgrammingError(f'invalid value "{text}" for connect_timeout') from why
+    return seconds if seconds > 0 else math.inf
 
 
 def parameters(database: str) -> dict[str, str]:
