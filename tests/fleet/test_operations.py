@@ -192,8 +192,15 @@ class StatusTest(CommandCase):
 
     def test_usage_has_a_status_of_its_own(self) -> None:
         """2 is for an answer that was lost."""
-        for words in (["publish"], ["publish", "--id", "x", "a/fr=a.po"], ["nonsense"], ["wait"], ["status", "--x"], []):
+        for words in (["publish"], ["publish", "--id", "x", "a/fr=a.po"], ["nonsense"], ["wait"], ["status", "--x"], [],
+                      ["wait", "--within", "nan", "1"], ["compact", "--seen-within", "-1"], ["status", "--late", "x"]):
             self.assertEqual(self.command(*words)[0], 64, words)
+
+    def test_a_publish_that_may_take_for_ever(self) -> None:
+        name = self.file("fr.mo", mo(1))
+        for version, seconds in enumerate(("inf", "1e12"), 1):
+            status, text, said = self.command("publish", "--within", seconds, f"app/fr={name}")
+            self.assertEqual((status, text, said), (0, f"version {version}\n", ""))
 
     def test_a_publish_too_large_for_sessions(self) -> None:
         large = f'msgid "k"\nmsgstr "{"x" * 34_000_000}"\n'.encode()

@@ -59,7 +59,7 @@ def parser() -> argparse.ArgumentParser:
     add_publishing(added)
     added = command("wait", "wait until all machines show a version")
     added.add_argument("until", metavar="VERSION", help="a number, or EPOCH.NUMBER")
-    added.add_argument("--within", type=float, default=60.0, metavar="SECONDS", help="how long to wait (60)")
+    added.add_argument("--within", type=seconds, default=60.0, metavar="SECONDS", help="how long to wait (60)")
     add_seen(added)
     add_follow(command("follow", "start catsession, load what the log has, and answer questions from the input"))
     add_status(command("status", "show the version of each machine, and how far it is behind"))
@@ -83,6 +83,14 @@ def add_init(added: argparse.ArgumentParser) -> None:
                        "kobdzila_publisher and kobdzila_operator, with exactly the rights that they need")
 
 
+def seconds(text: str) -> float:
+    """Return a number of seconds, for argparse."""
+    made = float(text)
+    if not made >= 0:  # (nor is one that isn't a number)
+        raise ValueError(text)
+    return made
+
+
 def add_publish(added: argparse.ArgumentParser) -> None:
     added.add_argument("catalogues", nargs="+", metavar="DOMAIN/LOCALE=FILE", help="a PO file, or an MO file (*.mo)")
     added.add_argument("--no-check", action="store_true", help="skip the checks of msgfmt -c")
@@ -95,7 +103,7 @@ def add_publishing(added: argparse.ArgumentParser) -> None:
     added.add_argument("--note", default=None, metavar="TEXT", help="a text for the history")
     added.add_argument("--id", type=uuid.UUID, default=None, metavar="UUID",
                        help="the number of this publish; one that is in the log already isn't published again")
-    added.add_argument("--within", type=float, default=30.0, metavar="SECONDS",
+    added.add_argument("--within", type=seconds, default=30.0, metavar="SECONDS",
                        help="how long to try if the server can't be reached (30)")
     added.add_argument("--token", action="store_true", help="print EPOCH.NUMBER alone, as `wait` takes it")
 
@@ -118,12 +126,12 @@ def add_status(added: argparse.ArgumentParser) -> None:
     added.add_argument("--json", action="store_true", help="print one object of JSON")
     added.add_argument("--check", action="store_true", help="exit with status 1 if a machine is behind, 2 if one is "
                        "silent or has stopped, and 3 if the database doesn't answer")
-    added.add_argument("--late", type=float, default=10.0, metavar="SECONDS",
+    added.add_argument("--late", type=seconds, default=10.0, metavar="SECONDS",
                        help="for how long a machine may be behind (10)")
 
 
 def add_seen(added: argparse.ArgumentParser) -> None:
-    added.add_argument("--seen-within", type=float, default=DAY, metavar="SECONDS",
+    added.add_argument("--seen-within", type=seconds, default=DAY, metavar="SECONDS",
                        help="don't wait for machines that reported longer ago (86400)")
 
 

@@ -37,6 +37,7 @@ GRACE = 0.4  # seconds by which a server may be later than its own limits
 LOOK_WITHIN = 0.5  # seconds that a look at the machines has, even if less is left
 SILENT = 30.0  # seconds without a report, which comes every ten
 PART = 4 << 20  # bytes of files that are sent in one statement
+LONGEST = 1e6  # seconds, since a server counts milliseconds in 31 bits
 MOST_CONNECTIONS = 4  # of the threads that share a Log
 MOST_FOR_SESSIONS = MOST_LINES - 4096  # bytes of the lines that a Session takes in one step
 
@@ -330,7 +331,7 @@ class Log(Closing):
         if self._owner != os.getpid():  # (a fork, whose parent uses the connections)
             self.close()
             self._room, self._owner = threading.BoundedSemaphore(MOST_CONNECTIONS), os.getpid()
-        if not self._room.acquire(timeout=max(0.0, end - time.monotonic())):
+        if not self._room.acquire(timeout=min(LONGEST, max(0.0, end - time.monotonic()))):
             raise psycopg.OperationalError(f"all {MOST_CONNECTIONS} connections of this Log were in use")
         try:
             connection = self._free.pop() if self._free else None
@@ -455,7 +456,7 @@ def note_wait(connection: Watched, notice: psycopg.errors.Diagnostic) -> None:
 
 def limit_transaction(connection: Connection, end: float) -> None:
     """Make the server end this transaction in time, and wait for its synchronous standby."""
-    left = max(200, int(1000 * (end - time.monotonic())))
+    left = max(200, int(1000 * min(LONGEST, end - time.monotonic())))
     connection.execute(
         "select set_config('statement_timeout', %s, true), set_config('lock_timeout', %s, true),"
         " set_config('idle_in_transaction_session_timeout', '10000', true), set_config('synchronous_commit',"
