@@ -11,6 +11,7 @@ import shutil
 import signal
 import socket
 import stat
+import struct
 import subprocess
 import sys
 import tempfile
@@ -266,6 +267,26 @@ class NumbersTest(CommandCase):
             status, _, said = self.command("metrics", "--listen", f"{written}:0")
         self.assertEqual(status, 0)
         self.assertRegex(said, rf"\Akob-fleet: metrics on http://{re.escape(written)}:[0-9]+/metrics\n\Z")
+
+    def test_a_scrape_that_is_given_up(self) -> None:
+        """Prometheus leaves while the database is slow: the server says nothing of it, and answers the next one."""
+        left, said = threading.Event(), io.StringIO()
+
+        def slow() -> str:
+            left.wait(60)
+            return "x" * 10_000_000
+
+        with contextlib.redirect_stderr(said), _metrics.served(("127.0.0.1", 0), slow) as server:
+            threading.Thread(target=server.serve_forever, daemon=True).start()
+            with socket.create_connection(server.server_address) as client:
+                client.sendall(b"GET /metrics HTTP/1.0\r\n\r\n")
+                until(lambda: threading.active_count() > 2)
+                client.setsockopt(socket.SOL_SOCKET, socket.SO_LINGER, struct.pack("ii", 1, 0))
+            left.set()
+            with urllib.request.urlopen(f"http://127.0.0.1:{server.server_port}/metrics", timeout=60) as answer:
+                self.assertEqual(len(answer.read()), 10_000_000)
+            server.shutdown()
+        self.assertEqual(said.getvalue(), "")
 
     def test_what_a_follower_counts(self) -> None:
         follower = self.follower()

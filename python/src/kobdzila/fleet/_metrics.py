@@ -2,8 +2,10 @@
 from __future__ import annotations
 
 import socket
+import sys
 from collections.abc import Callable, Sequence
 from http.server import BaseHTTPRequestHandler, ThreadingHTTPServer
+from typing import Any
 
 from ._log import Machine, Status
 
@@ -70,5 +72,10 @@ def served(address: tuple[str, int], text: Callable[[], str]) -> ThreadingHTTPSe
 
     class Server(ThreadingHTTPServer):
         address_family = socket.AF_INET6 if ":" in address[0] else socket.AF_INET
+
+        def handle_error(self, request: Any, client_address: Any) -> None:
+            """A client that left early, or doesn't read, is no error."""
+            if not isinstance(sys.exc_info()[1], (ConnectionError, TimeoutError)):
+                super().handle_error(request, client_address)
 
     return Server(address, Handler)
