@@ -595,6 +595,8 @@ PGBOUNCER = shutil.which("pgbouncer", path=f"{os.environ['PATH']}:/usr/sbin")
 class PoolerTest(LogCase):
     """A pooler in transaction mode gives each transaction another session."""
 
+    mode, size = "transaction", 2
+
     def setUp(self) -> None:
         super().setUp()
         folder = servers.folder()
@@ -603,13 +605,13 @@ class PoolerTest(LogCase):
         port = servers.free_port()
         (room / "ini").write_text(textwrap.dedent(f"""
             [databases]
-            * = host=127.0.0.1 port={servers.shared().port} user=postgres pool_size=2
+            * = host=127.0.0.1 port={servers.shared().port} user=postgres pool_size={self.size}
             [pgbouncer]
             listen_addr = 127.0.0.1
             listen_port = {port}
             unix_socket_dir =
             auth_type = any
-            pool_mode = transaction
+            pool_mode = {self.mode}
             logfile = {room}/log
         """), encoding="utf-8")
         self.pooler = subprocess.Popen([*servers.as_user(), str(PGBOUNCER), "-q", str(room / "ini")])
@@ -637,6 +639,10 @@ class PoolerTest(LogCase):
             until(lambda: [it.version for it in log.status().machines] == [6] * 3)
         self.assertEqual([it.trouble for it in followers], [None] * 3)
         self.assertEqual(self.sql("select distinct setting from pg_settings where name = 'statement_timeout'"), [("0",)])
+
+
+class SessionPoolerTest(PoolerTest):
+    mode, size = "session", 9
 
 
 class StandbyTest(unittest.TestCase):
