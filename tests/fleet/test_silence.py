@@ -92,6 +92,22 @@ class HostsTest(LogCase):
         self.assertLess(time.monotonic() - begun, SLOW + 2)
         self.assertIn("name server", str(caught.exception))
 
+    def test_why_there_is_no_connection(self) -> None:
+        """The reason is libpq's, whole, also if a colon is in it."""
+        nowhere = f"host=127.0.0.1 port={servers.free_port()}"
+        for address, said in ((nowhere, "Connection refused"), ("sslmode=x", 'invalid sslmode value: "x"'),
+                              ("port=99999", 'invalid port number: "99999"'), ("host=/none", "No such file"),
+                              (f"{self.address} password=secret dbname=x:y", 'FATAL:  database "x:y" does not exist')):
+            with self.assertRaises(psycopg.OperationalError) as caught, Log(address) as log:
+                log.status()
+            self.assertIn(f": connection failed: {said}", str(caught.exception))
+            self.assertNotIn("secret", str(caught.exception))
+
+    @unittest.skipUnless(servers.has_ipv6(), "no IPv6")
+    def test_why_there_is_no_connection_over_ipv6(self) -> None:
+        with self.assertRaisesRegex(psycopg.OperationalError, "connection failed: Connection refused"):
+            Log(f"host=::1 port={servers.free_port()}").status()
+
     def test_attributes_of_sessions(self) -> None:
         address = servers.shared().address
         for attributes, is_right in (("any", True), ("read-write", True), ("primary", True), ("prefer-standby", True),

@@ -10,6 +10,7 @@ import ipaddress
 import math
 import os
 import random
+import re
 import select
 import socket
 import struct
@@ -34,6 +35,7 @@ ATTRIBUTES = ("any", "read-write", "read-only", "primary", "standby", "prefer-st
 FOUND_BY_LIBPQ = ("any", "read-write", *(("primary", "standby", "read-only") if pq.version() >= 140000 else ()))
 USUAL = {"keepalives_idle": "10", "keepalives_interval": "3", "keepalives_count": "3", "tcp_user_timeout": "10000",
          "fallback_application_name": "kob-fleet"}
+TO_SERVER = re.compile('^connection to server (at|on socket) "[^"]*".*? failed: ')
 SSL_REQUEST = struct.pack("!II", 8, 80877103)  # which every server answers by one byte
 # What a session is: whether the server is a standby and takes writes, and the process that serves it
 SESSION = "select pg_is_in_recovery(), current_setting('transaction_read_only')::bool, pg_backend_pid()"
@@ -277,7 +279,7 @@ def started(server: Server, text: str, wake: int, end: float) -> pq.abc.PGconn:
                 made.nonblocking = 1
                 return made
             if made.status == pq.ConnStatus.BAD or status == pq.PollingStatus.FAILED:
-                raise psycopg.OperationalError(f"connection failed: {pq.error_message(made)}")
+                raise psycopg.OperationalError(f"connection failed: {reason_of(made)}")
             wanted = 1 if status == pq.PollingStatus.READING else 2
             ready, is_woken = polled(made.socket, wanted, wake, end - time.monotonic())
             if is_woken:
@@ -288,6 +290,15 @@ def started(server: Server, text: str, wake: int, end: float) -> pq.abc.PGconn:
     except BaseException:
         made.finish()
         raise
+
+
+def reason_of(made: pq.abc.PGconn) -> str:
+    """Return why libpq couldn't connect, without the server, which is named already.
+
+    pq.error_message cuts at the first colon, even if that is in an address or after "invalid sslmode value".
+    """
+    said = made.error_message.decode(errors="replace").strip()
+    return TO_SERVER.sub("", said) or "no reason is known"
 
 
 def check_attributes(connection: Watched, attributes: str) -> None:
