@@ -472,6 +472,21 @@ class ProgramTest(CommandCase):
             self.assertIsNone(daemon.poll())
 
     @unittest.skipUnless(has_catsession(), NO_SESSION)
+    def test_where_it_cannot_listen(self) -> None:
+        """What can't be had is named."""
+        with tempfile.TemporaryDirectory() as room, socket.create_server(("127.0.0.1", 0)) as taken:
+            Path(f"{room}/file").touch()
+            for name, why in (("none/socket", "No such file or directory"), ("file", "Address already in use"),
+                              ("x" * 108, "AF_UNIX path too long")):
+                path = f"{room}/{name}"
+                daemon = self.program("follow", "--daemon", "--socket", path)
+                self.assertEqual((daemon.wait(100), daemon.stderr.read().decode()), (1, f"kob-fleet: {path}: {why}\n"))
+            where = f"127.0.0.1:{taken.getsockname()[1]}"
+            status, text, said = self.command("metrics", "--listen", where)
+            self.assertEqual((status, text), (1, ""))
+            self.assertIn(f"kob-fleet: {where}: Address already in use\n", said)
+
+    @unittest.skipUnless(has_catsession(), NO_SESSION)
     def test_who_may_ask_the_unit(self) -> None:
         """Programs of all users, with the umask of the unit; the cache is the daemon's own."""
         unit = (TOP / "packaging" / "systemd" / "kob-fleet-follow.service").read_text(encoding="utf-8")

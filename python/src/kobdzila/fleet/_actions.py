@@ -230,7 +230,11 @@ def print_metrics(options: argparse.Namespace) -> int:
         if not port.isdecimal() or int(port) > 65535:
             raise Misused(f"not of the form [HOST:]PORT: {options.listen}")
         host = host.strip("[]") or "127.0.0.1"
-        with served((host, int(port)), lambda: metrics(log.status())) as server:
+        try:
+            made = served((host, int(port)), lambda: metrics(log.status()))
+        except OSError as why:
+            raise Trouble(f"{options.listen}: {why.strerror}") from why
+        with made as server:
             say(f"metrics on http://{f'[{host}]' if ':' in host else host}:{server.server_port}/metrics")
             with contextlib.suppress(KeyboardInterrupt):
                 server.serve_forever()

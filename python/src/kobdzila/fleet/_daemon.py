@@ -108,15 +108,24 @@ def listening(options: argparse.Namespace, follower: Follower, session: Session)
     if is_given:
         listener = socket.socket(fileno=LISTEN_FDS_START)
     else:
-        listener = socket.socket(socket.AF_UNIX)
-        with contextlib.suppress(FileNotFoundError):
-            if Path(options.socket).is_socket():
-                Path(options.socket).unlink()
-        listener.bind(options.socket)
-        listener.listen(MOST_CLIENTS)
+        listener = bound(options.socket)
     with listener, contextlib.nullcontext() if is_given else removed(Path(options.socket)):
         threading.Thread(target=accept, args=[listener, follower, session, options.tokens], daemon=True).start()
         yield
+
+
+def bound(path: str) -> socket.socket:
+    """Return a socket at a path. One that is there already is replaced."""
+    made = socket.socket(socket.AF_UNIX)
+    try:
+        if Path(path).is_socket():
+            Path(path).unlink(missing_ok=True)
+        made.bind(path)
+        made.listen(MOST_CLIENTS)
+    except OSError as why:
+        made.close()
+        raise Trouble(f"{path}: {why.strerror or why}") from why
+    return made
 
 
 @contextlib.contextmanager
