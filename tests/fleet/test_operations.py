@@ -403,6 +403,18 @@ class ProgramTest(CommandCase):
         self.addCleanup(made.kill)
         return made
 
+    def test_a_charset_that_lacks_a_character(self) -> None:
+        """It is escaped, as on standard error, and nothing else is lost. Prometheus reads UTF-8."""
+        self.log.publish(loads(1), note="zdjęcia")
+        self.row("żółw", "h:1:x", 2)
+        environment = {**os.environ, "PYTHONIOENCODING": "latin-1"}
+        for word, wanted in (("history", b"(zdj\\u0119cia)"), ("status", b"\n\\u017c\xf3\\u0142w  "),
+                             ("metrics", '{machine="żółw",'.encode())):
+            program = self.program(word, env=environment)
+            text, said = program.communicate(timeout=100)
+            self.assertEqual((program.returncode, said), (0, b""))
+            self.assertIn(wanted, text)
+
     def test_help_without_psycopg(self) -> None:
         code = textwrap.dedent("""
             import sys

@@ -3,6 +3,7 @@ from __future__ import annotations
 
 import argparse
 import contextlib
+import io
 import json
 import logging
 import os
@@ -224,6 +225,8 @@ def verdict(found: Status, late: float) -> int:
 def print_metrics(options: argparse.Namespace) -> int:
     with Log(options.database) as log:
         if options.listen is None:
+            if isinstance(sys.stdout, io.TextIOWrapper):
+                sys.stdout.reconfigure(encoding="utf-8")  # (as the format has it, whatever the locale)
             sys.stdout.write(metrics(log.status()))
             return 0
         host, _, port = options.listen.rpartition(":")
