@@ -415,6 +415,16 @@ class ProgramTest(CommandCase):
             self.assertEqual((program.returncode, said), (0, b""))
             self.assertIn(wanted, text)
 
+    def test_closed_input_and_output(self) -> None:
+        """No traceback."""
+        for word, closed, wanted in (
+                ("metrics", ">&-", (0, b"")), ("metrics", "<&- >&-", (0, b"")),
+                *(("follow", it, (1, b"kob-fleet: standard input or output is closed\n")) for it in (">&-", "<&-"))):
+            command = [sys.executable, "-m", "kobdzila.fleet._command", "-d", self.address, word]
+            done = subprocess.run(["sh", "-c", f'exec "$@" {closed}', "sh", *command], capture_output=True, timeout=100,
+                                  check=False)
+            self.assertEqual((done.returncode, done.stderr), wanted, word)
+
     def test_help_without_psycopg(self) -> None:
         code = textwrap.dedent("""
             import sys

@@ -227,7 +227,7 @@ def print_metrics(options: argparse.Namespace) -> int:
         if options.listen is None:
             if isinstance(sys.stdout, io.TextIOWrapper):
                 sys.stdout.reconfigure(encoding="utf-8")  # (as the format has it, whatever the locale)
-            sys.stdout.write(metrics(log.status()))
+            print(metrics(log.status()), end="")
             return 0
         host, _, port = options.listen.rpartition(":")
         if not port.isdecimal() or int(port) > 65535:

@@ -43,6 +43,8 @@ def say(text: str) -> None:
 
 def follow(options: argparse.Namespace) -> int:
     """Answer rounds of questions until there are no more, or until the end of a daemon."""
+    if not options.daemon and (sys.stdin is None or sys.stdout is None):
+        raise Trouble("standard input or output is closed")
     signal.signal(signal.SIGTERM, terminate)
     try:
         with Session(options.catsession) as session:
