@@ -330,6 +330,25 @@ class RolesTest(CommandCase):
             self.row("m", "h:1:x")
             self.assertEqual(log.forget("m"), 1)
 
+    def test_roles_that_several_make_at_once(self) -> None:
+        """As a tool that sets up all machines does."""
+        failed: list[BaseException] = []
+
+        def init() -> None:
+            try:
+                with Log(self.address) as log:
+                    log.init(roles=True)
+            except psycopg.Error as why:
+                failed.append(why)
+
+        for _ in range(5):
+            threads = [threading.Thread(target=init) for _ in range(8)]
+            for thread in threads:
+                thread.start()
+            for thread in threads:
+                thread.join()
+        self.assertEqual(failed, [])
+
     def test_a_schema_that_was_made_for_its_owner(self) -> None:
         """He needs no right to create others in the database."""
         self.sql("do $$ begin create role schema_owner login; exception when duplicate_object then null; end $$")

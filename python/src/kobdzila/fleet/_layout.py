@@ -10,6 +10,7 @@ from ._version import new_epoch
 Connection: TypeAlias = "psycopg.Connection[Any]"
 
 LAYOUT = 2
+ALONE = "select pg_advisory_xact_lock(hashtext('kobdzila'))"
 NO_LOG = "this database has no log: kob-fleet init creates one"
 RESTORED = ("this log was made in another database or server, so it was restored from a backup or copied: "
             "kob-fleet restore begins a new epoch of it")
@@ -120,7 +121,7 @@ class Restored(NoLog):
 def create(connection: Connection, upgrade: bool) -> None:
     """Create the tables, or upgrade those of an earlier layout if `upgrade` says so. All or nothing."""
     with connection.transaction():
-        connection.execute("select pg_advisory_xact_lock(hashtext('kobdzila'))")
+        connection.execute(ALONE)
         found = layout_of(connection)
         if found is None:
             # (`if not exists` needs the right to create schemas even if this one is there)
@@ -136,6 +137,7 @@ def create(connection: Connection, upgrade: bool) -> None:
 def create_roles(connection: Connection) -> None:
     """Create the three roles, unless they are there, and give them exactly what they need."""
     with connection.transaction():
+        connection.execute(ALONE)  # (the server can't change the rights of one table twice at once)
         owner = connection.execute(
             "select pg_has_role(nspowner, 'usage') from pg_namespace where nspname = 'kobdzila'").fetchone()
         if not (owner and owner[0]):
