@@ -148,6 +148,15 @@ class HostsTest(LogCase):
                          "tcp_keepalives_idle"):
                 self.assertNotIn(connection.execute(f"show {name}").fetchone()[0], ("0", "7200"), name)
 
+    def test_settings_of_the_connection_string(self) -> None:
+        """They override ours."""
+        query = "select current_setting('lock_timeout'), current_setting('statement_timeout'), current_setting('jit')"
+        given = f"{self.address} options='-c statement_timeout=77s -c deadlock_timeout=2s'"
+        with Log(given) as log:
+            self.assertEqual(log._once(lambda it: it.execute(query).fetchone()), ("10s", "77s", "off"))
+        with mock.patch.dict(os.environ, PGOPTIONS="-c lock_timeout=3s"), Log(self.address) as log:
+            self.assertEqual(log._once(lambda it: it.execute(query).fetchone()), ("3s", "10min", "off"))
+
     def test_no_query_is_compiled(self) -> None:
         """A query that is compiled costs the server more than it does, for each of the machines that wake at once."""
         with _connect.connect(servers.shared().address, "any") as connection:

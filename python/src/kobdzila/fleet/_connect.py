@@ -260,7 +260,7 @@ def session(server: Server, given: dict[str, str], attributes: str, wake: int, e
         connection.is_pooled = row[2] != connection.info.backend_pid
         check_attributes(connection, attributes)
         if not connection.is_pooled:
-            set_for_session(connection, **SETTINGS)
+            set_for_session(connection, **unless_given(SETTINGS, given))
     except BaseException:
         connection.close()
         raise
@@ -309,6 +309,12 @@ def check_attributes(connection: Watched, attributes: str) -> None:
              "standby": not connection.is_standby and "it is no standby"}.get(attributes, False)
     if wrong:
         raise psycopg.OperationalError(str(wrong))
+
+
+def unless_given(settings: dict[str, str], given: dict[str, str]) -> dict[str, str]:
+    """Return the settings that the connection string doesn't have in its own `options`, nor PGOPTIONS."""
+    options = given.get("options", os.environ.get("PGOPTIONS", ""))
+    return {name: value for name, value in settings.items() if not re.search(rf"\b{name}\b", options)}
 
 
 def set_for_session(connection: Watched, **settings: str) -> None:
