@@ -29,7 +29,7 @@ import psycopg
 import kobdzila
 import servers
 from cases import LogCase
-from kobdzila.fleet import Follower, Log, NoLog, _command, _daemon, _layout, _log, _metrics, metrics
+from kobdzila.fleet import Follower, Log, NoLog, Version, _command, _daemon, _layout, _log, _metrics, metrics
 from stores import NO_SESSION, Catalogues, has_catsession, loads, mo, until
 
 # the tables of layout 1, as they were
@@ -554,6 +554,29 @@ class ProgramTest(CommandCase):
             self.assertEqual(daemon.wait(100), 1)
             self.assertEqual(daemon.stderr.read(), b"kob-fleet: catsession ended with status -9\n")
             self.assertEqual(self.log.status().machines, [])
+
+    @unittest.skipUnless(has_catsession(), NO_SESSION)
+    def test_a_daemon_whose_catsession_hangs(self) -> None:
+        """systemd's watchdog hears nothing more, and so restarts it."""
+        follower = mock.Mock(has_failed=False, has_joined=True, version=Version(2))
+        follower.wait_for.side_effect = lambda *_: time.sleep(0.02)
+        with socket.socket(socket.AF_UNIX, socket.SOCK_DGRAM) as systemd, kobdzila.Session() as session:
+            systemd.bind(f"\0kob-fleet-{os.getpid()}")
+            systemd.settimeout(1)
+            with mock.patch.dict(os.environ, NOTIFY_SOCKET=f"@kob-fleet-{os.getpid()}"):
+                serving = threading.Thread(target=_daemon.serve, args=[follower, session], daemon=True)
+                serving.start()
+                self.assertEqual(systemd.recv(100), b"READY=1")
+                self.assertIn(b"WATCHDOG=1", systemd.recv(1000))
+                session._process.send_signal(signal.SIGSTOP)
+                try:
+                    with self.assertRaises(TimeoutError):
+                        for _ in range(200):
+                            systemd.recv(1000)
+                finally:
+                    session._process.kill()
+                with contextlib.redirect_stderr(io.StringIO()):
+                    serving.join(60)
 
     @unittest.skipUnless(has_catsession(), NO_SESSION)
     def test_a_daemon_whose_log_lost_publishes(self) -> None:

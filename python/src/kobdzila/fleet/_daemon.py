@@ -78,7 +78,7 @@ def serve(follower: Follower, session: Session) -> int:
             is_ready = True
             notify("READY=1")
         health = follower.health()
-        if health.is_alive:
+        if health.is_alive and answers(session):
             notify(f"STATUS={health.state} at version {follower.version.token}\nWATCHDOG=1")
         with contextlib.suppress(Behind):
             follower.wait_for(0 if not is_ready else follower.version + 1, TOLD_EACH)
@@ -86,6 +86,14 @@ def serve(follower: Follower, session: Session) -> int:
     if not follower.has_failed:
         say(f"catsession ended with status {session._process.returncode}")
     return 1
+
+
+def answers(session: Session) -> bool:
+    """Whether catsession answers a round. It blocks while that hangs: so systemd is told nothing more, and ends all."""
+    with contextlib.suppress(SessionEnded):
+        session._answer([])
+        return True
+    return False
 
 
 def notify(text: str) -> None:
