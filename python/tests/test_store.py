@@ -456,6 +456,35 @@ class LanguagesTest(unittest.TestCase):
             self.assertEqual(store.snapshot(header).gettext("a"), text, header)
 
 
+def interrupted(work: Callable[[], object], moment: int) -> bool:
+    """Raise KeyboardInterrupt at a moment of the work, of those at which Python runs signal handlers: a function of
+    Python's is entered, or one in C has returned. Return whether the work came to that moment."""
+    left = moment
+
+    def count(frame: object, event: str, argument: object) -> None:
+        nonlocal left
+        left -= event in ("call", "c_return")
+        if left == 0:
+            raise KeyboardInterrupt
+
+    try:
+        sys.setprofile(count)
+        work()
+    except KeyboardInterrupt:
+        pass
+    finally:
+        sys.setprofile(None)
+    return left <= 0
+
+
+def is_free(store: Store) -> bool:
+    """Return whether another thread can publish."""
+    thread = threading.Thread(target=store.publish, daemon=True)
+    thread.start()
+    thread.join(5)
+    return not thread.is_alive()
+
+
 class ThreadsTest(unittest.TestCase):
     def test_readers_and_publishers(self) -> None:
         """Two publishers, each with texts of its own for two domains, and readers that compare them."""
@@ -506,6 +535,17 @@ class ThreadsTest(unittest.TestCase):
 
             in_threads(*[ask] * 4)
         self.assertEqual(wrong, [])
+
+    def test_interrupted(self) -> None:
+        """Wherever a signal handler raises an exception, no lock stays held: other threads publish afterwards."""
+        store = store_with(("shop", "fr", FRENCH.encode()))
+        for work in (store.publish, lambda: store.load("shop", "de", FRENCH.encode()),
+                     lambda: store._publish_all([("shop", "fr", french())])):
+            moment = 1
+            while interrupted(work, moment):
+                self.assertTrue(is_free(store), (work, moment))
+                moment += 1
+            self.assertGreater(moment, 4)
 
     def test_others_run_while_it_loads(self) -> None:
         """A load releases the interpreter's lock: a clock in another thread ticks while a large text is compiled."""

@@ -8,18 +8,20 @@ A part is registered once it is complete, at the end of its `__init__`, and is f
 
     class Follower:
         def __init__(self, store):
-            self._changed = threading.Condition()
+            self._lock = threading.RLock()
             ...
             _forks.register(self)
 
         def _fork_locks(self):
-            return [self._changed]
+            return [self._lock]
 
         def _forked(self):
-            self._changed = threading.Condition()
+            self._lock = threading.RLock()
             self._start()
 
-Code that takes such a lock again and again uses `with _forks.held(self._changed)`, which lets a fork go first.
+Code that takes such a lock again and again calls `_forks.give_way()` before `with self._lock`, which lets a fork go
+first. That `with` names the lock itself: a signal handler may raise an exception at any call, also at the end of an
+`__enter__` that is written in Python, and then nobody would release what that has taken.
 
 Parts are called in the order of registration, so a store comes before what feeds it.
 """
@@ -31,8 +33,7 @@ import os
 import threading
 import time
 import weakref
-from collections.abc import Iterable, Iterator
-from contextlib import contextmanager
+from collections.abc import Iterable
 from typing import Protocol
 
 LOG = logging.getLogger("kobdzila")
@@ -40,7 +41,7 @@ PATIENCE = 10.0  # seconds that a fork waits at most for locks that are held; th
 
 
 class Lock(Protocol):
-    """A lock or a condition of the module threading."""
+    """A lock of the module threading."""
 
     def acquire(self, blocking: bool = ..., timeout: float = ...) -> bool: ...
     def release(self) -> None: ...
@@ -62,7 +63,7 @@ class Part(Protocol):
 _parts: dict[int, weakref.ref[Part]] = {}
 _numbers = itertools.count()
 _turn = threading.RLock()  # one thread at a time takes the locks
-_taken = threading.local()  # `locks`: those that this thread took for a fork; `depth`: how many it holds by `held`
+_taken = threading.local()  # `locks`: those that this thread took for a fork
 _forking = False  # whether a thread has its turn
 
 
@@ -72,23 +73,20 @@ def register(part: Part) -> None:
     _parts[number] = weakref.ref(part, lambda _: _parts.pop(number, None))
 
 
-@contextmanager
-def held(lock: Lock) -> Iterator[None]:
-    """Hold a lock in a `with`. A thread that holds no other lock first waits until no fork is pending.
+def give_way() -> None:
+    """Wait until no fork is pending, unless this thread holds a lock that a fork waits for.
 
     Without that, a thread that takes a lock again at once would block the one that forks.
     """
-    depth = getattr(_taken, "depth", 0)
-    if _forking and depth == 0:
+    if _forking and not any(is_own(lock) for part in _all() for lock in part._fork_locks()):
         with _turn:
             pass
-    lock.acquire()
-    _taken.depth = depth + 1
-    try:
-        yield
-    finally:
-        _taken.depth = depth
-        lock.release()
+
+
+def is_own(lock: Lock) -> bool:
+    """Return whether this thread holds the lock. False if it can't be known: a plain lock doesn't have an owner."""
+    own: bool = getattr(lock, "_is_owned", bool)()
+    return own
 
 
 def _all() -> list[Part]:

@@ -128,7 +128,8 @@ class Store(_kobdzila.Store):
 
     def __init__(self, domain: str = "messages", *, source: str | None = "en", default: str | None = None) -> None:
         self.domain, self.source, self.default = domain, source, default
-        self._changed = threading.Condition()  # held while a publish is under way
+        self._lock = threading.RLock()  # held while a publish is under way
+        self._changed = threading.Condition(self._lock)
         self._waiters = Waiters()
         self._shown = 0  # the version of the last publish that has ended
         self._loaded: dict[str, set[str]] = {}  # locales of the loads that are pending, by their domains
@@ -169,7 +170,8 @@ class Store(_kobdzila.Store):
         It doesn't wait for snapshots. Raise MemoryError if memory runs out: nothing is published, and the loads are
         still pending.
         """
-        with _forks.held(self._changed):
+        _forks.give_way()
+        with self._lock:
             version = self._publish()
             for domain, locales in self._loaded.items():
                 known = self._sites.get(domain, NO_SITE).names
@@ -182,7 +184,7 @@ class Store(_kobdzila.Store):
         return version
 
     def _load(self, domain: str, locale: str, catalogue: _kobdzila.Catalogue) -> None:
-        with self._changed:
+        with self._lock:
             super()._load(domain, locale, catalogue)
             self._loaded.setdefault(domain, set()).add(locale)
 
@@ -208,7 +210,7 @@ class Store(_kobdzila.Store):
         If the version is less than `at_least`, wait up to `within` seconds for a publish, and then raise TimeoutError.
         """
         if at_least > self._shown:
-            with self._changed:
+            with self._lock:
                 if not self._changed.wait_for(lambda: self._shown >= at_least, within):
                     raise self._late(at_least)
         where = self.domain if domain is None else domain
@@ -272,17 +274,19 @@ class Store(_kobdzila.Store):
             use_fuzzy=use_fuzzy, allow_empty=allow_empty,
         )
 
-    def _fork_locks(self) -> list[threading.Condition]:
-        return [self._changed]
+    def _fork_locks(self) -> list[_forks.Lock]:
+        return [self._lock]
 
     def _forked(self) -> None:
-        self._changed = threading.Condition()
+        self._lock = threading.RLock()
+        self._changed = threading.Condition(self._lock)
         self._waiters = Waiters()
 
     def _publish_all(self, loads: Iterable[tuple[str, str, Catalogue]]) -> tuple[int, dict[int, Refused]]:
         """Publish these loads in one step. Return the version, and the loads that were refused."""
         refusals: dict[int, Refused] = {}
-        with _forks.held(self._changed):
+        _forks.give_way()
+        with self._lock:
             for number, load in enumerate(loads):
                 try:
                     self._load(*load)

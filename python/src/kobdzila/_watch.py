@@ -206,7 +206,8 @@ class Watch(Closing):
                     self._seen.pop(other_of(path), None)
         if not loads:
             return None
-        with _forks.held(self.store._changed):  # (so a forked child has both or neither)
+        _forks.give_way()
+        with self.store._lock:  # (so a forked child has both or neither)
             version, refused = self.store._publish_all(loads)
             self._note(loads, files, refused)
         refusals += (refusal_of(files[number][0], it) for number, it in refused.items())
