@@ -5,6 +5,7 @@ import copy
 import gc
 import gettext
 import importlib
+import io
 import os
 import pickle
 import random
@@ -302,6 +303,37 @@ class LookUpTest(unittest.TestCase):
             for translations in (theirs, ours):
                 with self.assertRaises(TypeError):
                     translations.ngettext("%d file", "%d files", n)
+
+    def test_numbers_with_index(self) -> None:
+        """A number such as NumPy's, which stands for an int, gets the answer and the warnings of Python's gettext."""
+        class Number:
+            def __init__(self, value: int) -> None:
+                self.value = value
+
+            def __index__(self) -> int:
+                return self.value
+
+            def __round__(self) -> int:
+                return self.value
+
+            def __gt__(self, other: int) -> bool:
+                return self.value > other
+
+        ours = GNUTranslations.from_po(FRENCH.encode())
+        theirs = gettext.GNUTranslations(io.BytesIO(ours.mo_file()))
+        for value in (0, 1, 2):
+            for words in (("%d file", "%d files"), ("none", "nones")):
+                said = []
+                for it in (theirs, ours):
+                    with warnings.catch_warnings(record=True) as caught:
+                        warnings.simplefilter("always")
+                        number: Any = Number(value)
+                        said.append((it.ngettext(*words, number), [str(warning.message) for warning in caught]))
+                self.assertEqual(said[0], said[1], (words, value))
+        if sys.version_info >= (3, 13):
+            one: Any = Number(1)
+            for module in (gettext, kobdzila):
+                self.assertEqual(module.dngettext("none", "one", "many", one), "one")
 
     def test_form_of_one(self) -> None:
         it = Catalogue.from_po(ARABIC.encode())

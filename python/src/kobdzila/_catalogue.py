@@ -5,6 +5,7 @@ from __future__ import annotations
 import copyreg
 import gettext as python_gettext
 import io
+import operator
 import os
 import re
 import struct
@@ -41,6 +42,7 @@ else:
 READ_BY_PYTHON = {Fault.MO_REVISION, Fault.MO_BAD_TEXT, Fault.MO_FORMS, Fault.MO_CHARSET}
 READ_BY_PYTHON |= {it for it in Fault if it.name.startswith("MO_DEPENDENT_")} | {Fault.MO_NO_CHARACTER}
 GERMANIC = "n != 1"  # in place of a plural rule that is broken
+INDEX_IS_INT = sys.version_info >= (3, 13)  # whether an object with `__index__` is an int to the standard gettext
 OWN_FRAMES = ("kobdzila", "gettext")  # a warning names the caller outside of them
 PRIVATE: Any = python_gettext  # what the module has besides its documented names
 CONTEXT = python_gettext.GNUTranslations.CONTEXT  # the key of a message in a context
@@ -406,6 +408,8 @@ def as_int(n: Any) -> Any:
         round(n)
     except TypeError:
         raise TypeError(f"Plural value must be an integer, got {type(n).__name__}") from None
+    if INDEX_IS_INT and hasattr(n, "__index__"):
+        return operator.index(n)
     warn_of(n)
     return n
 

@@ -6,10 +6,11 @@ messages of argparse, optparse and getopt, which import the standard one, are in
 from __future__ import annotations
 
 import errno
+import operator
 import os
 from gettext import NullTranslations, find
 
-from ._catalogue import PRIVATE, GNUTranslations, warn_of
+from ._catalogue import INDEX_IS_INT, PRIVATE, GNUTranslations, warn_of
 
 TYPE_CHECKING = False
 if TYPE_CHECKING:
@@ -123,6 +124,8 @@ class _Untranslated(NullTranslations):
     def ngettext(self, msgid1: str, msgid2: str, n: int) -> str:
         if not hasattr(n, "__index__"):
             warn_of(n)
+        elif INDEX_IS_INT:
+            n = operator.index(n)
         return msgid1 if n == 1 else msgid2
 
     def npgettext(self, context: str, msgid1: str, msgid2: str, n: int) -> str:
