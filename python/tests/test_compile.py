@@ -367,6 +367,16 @@ class CommandTest(unittest.TestCase):
         self.assertEqual((running.returncode, "Traceback" in said), (1, False))
         self.assertIn("ended from outside", said)
 
+    def test_left_over(self) -> None:
+        """What a killed run has left is in nobody's way, also if this process has the number of that one."""
+        script = 'touch "locale/fr/LC_MESSAGES/.shop.mo.$$.new" && exec "$@"'
+        command = [sys.executable, "-m", "kobdzila", "compile", "-q", "locale/fr/LC_MESSAGES/shop.po"]
+        done = subprocess.run(["sh", "-c", script, "sh", *command], stderr=subprocess.PIPE, check=False)
+        self.assertEqual((done.returncode, done.stderr), (0, b""))
+        for left in Path("locale/fr/LC_MESSAGES").glob(".*.new"):
+            left.unlink()
+        self.assertEqual(self.made(), ["locale/fr/LC_MESSAGES/shop.mo"])
+
     def test_not_writable(self) -> None:
         Path("x").write_text("")
         status, _, err = self.call("-i", "locale/fr/LC_MESSAGES/shop.po", "-o", "x/y.mo")

@@ -172,7 +172,8 @@ def replace(path: str, data: bytes) -> None:
 
 def replace_regular(path: str, data: bytes, old: os.stat_result | None) -> None:
     folder, name = os.path.split(path)
-    new = os.path.join(folder, f".{name}.{os.getpid()}.new")
+    # (no process number: a killed run, or one of another container, may have had the same)
+    new = os.path.join(folder, f".{name}.{os.urandom(8).hex()}.new")
     try:
         mode = 0o666 if old is None else 0o600  # (the latter until it has that of the old file)
         write_all(os.open(new, os.O_WRONLY | os.O_CREAT | os.O_EXCL | os.O_CLOEXEC, mode), data)
