@@ -307,7 +307,10 @@ class CommandTest(unittest.TestCase):
                             (["a.po", "--ignore", "b"], "--ignore"),
                             (["-i", "a.po", "-o", "x.mo", "-x", "de"], "--exclude"),
                             (["-i", "a.po", "-d", "locale", "b.po", "-l", "de"], "one PO file"),
-                            (["-i", "a.po", "-d", "locale", "-l", "de", "-D", "a,b"], "one -D DOMAIN")):
+                            (["-i", "a.po", "-d", "locale", "-l", "de", "-D", "a,b"], "one -D DOMAIN"),
+                            (["-d", ""], "-d/--directory: it is empty"), (["-l", ""], "-l/--locale: it is empty"),
+                            (["-d", "locale", "-D", " "], "-D/--domain: it is empty"),
+                            (["-i", "locale/fr/LC_MESSAGES/shop.po", "-o", ""], "-o/--output-file: it is empty")):
             status, out, err = self.call(*words)
             self.assertEqual((status, out), (2, ""), words)
             self.assertIn(said, err, words)

@@ -64,14 +64,15 @@ def add_compile(commands: Any) -> argparse.ArgumentParser:
         epilog=EPILOG, formatter_class=argparse.RawDescriptionHelpFormatter)
     add = parser.add_argument
     add("files", nargs="*", metavar="FILE.po", help="PO files, each compiled next to itself")
-    add("-d", "--directory", metavar="DIR", help=f"compile DIR/LOCALE/{FOLDER}/*.po")
-    add("-D", "--domain", action="append", default=[], help="only these domains, separated by spaces or commas")
-    add("-l", "--locale", action="append", default=[], help="only this locale; may be repeated")
+    add("-d", "--directory", type=not_empty, metavar="DIR", help=f"compile DIR/LOCALE/{FOLDER}/*.po")
+    add("-D", "--domain", type=not_empty, action="append", default=[],
+        help="only these domains, separated by spaces or commas")
+    add("-l", "--locale", type=not_empty, action="append", default=[], help="only this locale; may be repeated")
     add("-x", "--exclude", action="append", default=[], metavar="LOCALE", help="not this locale; may be repeated")
     add("-i", "--input-file", action="append", default=[], metavar="FILE",
         help="one PO file, with -o, or with -d and -l; without these the same as --ignore")
     add("--ignore", action="append", default=[], metavar="PATTERN", help="skip folders with such names")
-    add("-o", "--output-file", metavar="FILE", help="the MO file, for -i")
+    add("-o", "--output-file", type=not_empty, metavar="FILE", help="the MO file, for -i")
     add("-f", "--use-fuzzy", action="store_true", help="also compile fuzzy messages")
     add("--check", action="store_true", help="run the checks of msgfmt -c, and those of Python's formats")
     add("--statistics", action="store_true", help="print the number of translated messages of each file")
@@ -80,6 +81,13 @@ def add_compile(commands: Any) -> argparse.ArgumentParser:
     add("-q", "--quiet", action="store_true", help="print refusals only")
     add("-v", "--verbose", action="store_true", help="print the name of each file")
     return parser
+
+
+def not_empty(text: str) -> str:
+    """Return the value of an option. An empty one, as of a variable that isn't set, would be taken for no option."""
+    if not text.strip(", "):
+        raise argparse.ArgumentTypeError("it is empty")
+    return text
 
 
 # --- which files ------------------------------------------------------------------------------------------------------
