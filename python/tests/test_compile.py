@@ -131,6 +131,14 @@ class CompileTest(unittest.TestCase):
         ):
             self.assertEqual(bool(is_refused(text)), refused, text)
 
+    def test_many_entries(self) -> None:
+        """What is wrong with the last of many entries is found in about a second, and not in minutes."""
+        text = b"".join(entry("python-format", f"%d of {number}", f"%d de {number}") for number in range(40_000))
+        begun = time.monotonic()
+        said = is_refused(text + entry("python-format", "%(a)d", "%(b)d"))
+        self.assertLess(time.monotonic() - begun, 10)
+        self.assertEqual(said, "line 120002: msgstr takes 'b', which the message doesn't")
+
     def test_plurals(self) -> None:
         """A form for few numbers may leave the number out, as for GNU msgfmt."""
         other, one = HEADER.replace("n>1", "n!=1"), "un fichier de %(who)s"

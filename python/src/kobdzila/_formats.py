@@ -74,9 +74,10 @@ def described(data: bytes, line: int, language: int, number: int) -> Mismatch:
 
 def entry_at(data: bytes, line: int) -> re.Match[bytes] | None:
     """Return the entry whose first msgstr is on a line, or None."""
+    first = len(data) - len(data.split(b"\n", line - 1)[-1])
     for entry in FLAGGED.finditer(data):
-        if data.count(b"\n", 0, entry.start("forms")) + 1 == line:
-            return entry
+        if entry.start("forms") >= first:
+            return entry if data.find(b"\n", first, entry.start("forms")) < 0 else None
     return None
 
 
