@@ -14,6 +14,7 @@ import time
 import unittest
 import warnings
 from collections.abc import Callable
+from pathlib import Path
 from typing import Any
 
 import kobdzila
@@ -125,6 +126,11 @@ class LoadTest(unittest.TestCase):
         for number, call in enumerate(calls):
             with self.assertRaises(TypeError, msg=str(number)):
                 call()
+        others: list[Any] = ["fr.po", Path("fr.po"), 5]
+        for other in others:
+            said = f"bytes-like object is required, not '{type(other).__name__}'"
+            self.assertRaisesRegex(TypeError, said, store.load, "shop", "fr", other)
+            self.assertRaisesRegex(TypeError, said, kobdzila.compile_po, other)
         for n in (-1, 2**64):
             with self.assertRaises(OverflowError):
                 texts.find("shop", "fr", "basket", None, n)

@@ -75,7 +75,7 @@ def compile_po(data: _kobdzila.Buffer, *, checked: bool = False, use_fuzzy: bool
 
 def compiled(data: _kobdzila.Buffer, checked: bool, use_fuzzy: bool) -> Catalogue:
     """Return the catalogue of a PO file that passes all checks."""
-    if bytes(data[:3]) == BYTE_ORDER_MARK:
+    if bytes(memoryview(data)[:3]) == BYTE_ORDER_MARK:
         raise Refused(Fault.PO_BAD_WORD, 1, "the file begins with a byte order mark: save it as UTF-8 without one")
     catalogue = Catalogue.from_po(data, checked, use_fuzzy)
     if checked:

@@ -304,6 +304,6 @@ def opened(data: _kobdzila.Buffer | _kobdzila.Catalogue, checked: bool, use_fuzz
     """Return the catalogue of an MO file, recognized by its magic number, or of a PO text."""
     if isinstance(data, _kobdzila.Catalogue):
         return data
-    if bytes(data[:4]) in MO_MAGICS:
+    if bytes(memoryview(data)[:4]) in MO_MAGICS:
         return Catalogue.from_mo(data)
     return Catalogue.from_po(data, checked, use_fuzzy)
