@@ -310,6 +310,20 @@ class WatchTest(unittest.TestCase):
             with self.assertRaises(OSError):
                 self.store.watch(self.folder / folder)
 
+    def test_working_directory(self) -> None:
+        """A program that goes to another directory, as a daemon does, goes on watching the folder that it named."""
+        self.put(self.path("fr"), po("f1"))
+        self.addCleanup(os.chdir, os.getcwd())
+        os.chdir(self.folder.parent)
+        watch = self.store.watch("locale", refused=self.refused.append, every=30, settle=0.01)
+        self.addCleanup(watch.stop)
+        os.chdir("/")
+        self.put(self.path("fr"), po("f2"))
+        self.assertEqual((watch.look(), self.text()), (2, "f2"))
+        self.put(self.path("fr"), b"msg")
+        watch.look()
+        self.assertEqual([str(it) for it in self.refused], [f"{self.path('fr')}:1: unknown word"])
+
     def test_unreadable(self) -> None:
         """A file whose bytes can't be read (by root neither, so it is the memory of this process) is reported."""
         self.path("fr").symlink_to("/proc/self/mem")

@@ -89,7 +89,7 @@ class Watch(Closing):
         use_fuzzy: bool = False,
         allow_empty: bool = False,
     ) -> None:
-        self.store, self.folder = store, Path(folder)
+        self.store, self.folder = store, Path(folder).absolute()  # (a server may change its working directory)
         self._report: Callable[[FileRefused], object] = refused or (lambda file: LOG.warning("%s", file))
         self._every, self._settle = every, settle
         self._domains = None if domains is None else frozenset(domains)
