@@ -169,6 +169,8 @@ class WatchTest(unittest.TestCase):
         self.watch(checked=True, use_fuzzy=True, domains=["shop"])
         self.assertEqual([it.fault for it in self.refused], [Fault.PO_FORMAT_MISMATCH])
         self.assertEqual((self.text("de"), self.text("de", "mail"), self.store.version), ("d", "a", 1))
+        with self.assertRaisesRegex(TypeError, r"write \['shop'\]"):
+            self.watch(domains="shop")
 
     def test_both_formats(self) -> None:
         """The file that was modified last is shown, in either order."""

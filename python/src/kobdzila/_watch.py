@@ -89,6 +89,8 @@ class Watch(Closing):
         use_fuzzy: bool = False,
         allow_empty: bool = False,
     ) -> None:
+        if isinstance(domains, str):  # (whose letters would be text domains, which no file has)
+            raise TypeError(f"domains is a list of text domains, not a str: write [{domains!r}]")
         self.store, self.folder = store, Path(folder).absolute()  # (a server may change its working directory)
         self._report: Callable[[FileRefused], object] = refused or (lambda file: LOG.warning("%s", file))
         self._every, self._settle = every, settle
