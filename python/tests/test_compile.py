@@ -306,8 +306,10 @@ class CommandTest(unittest.TestCase):
 
     def test_wrong_options(self) -> None:
         for words, said in ((["-d", "none"], "there is no folder none"), (["-o", "x.mo"], "-i FILE"),
-                            (["-i", "a.po", "-d", "locale"], "-l LOCALE"), (["-D", "none", "-d", "locale"], "no PO files"),
-                            (["-l", "xx"], "no PO files"), (["--jobs", "x"], "invalid int"), (["--none"], "--none"),
+                            (["-i", "a.po", "-d", "locale"], "-l LOCALE"),
+                            (["-D", "none", "-d", "locale"], "in locale for --domain none:"),
+                            (["-l", "xx", "-x", "fr"], "below for --locale xx and --exclude fr:"),
+                            (["--jobs", "x"], "invalid int"), (["--none"], "--none"),
                             (["-i", "a.po", "-o", "x.mo", "b.po"], "one PO file"), (["-j", "0"], "from 1 on"),
                             (["-j", "-5"], "from 1 on"), (["-o", "x.mo", "a.po", "b.po"], "one PO file"),
                             (["a.po", "-d", "none", "-l", "de", "-D", "zz"], "--directory and --domain and --locale"),

@@ -106,6 +106,9 @@ def jobs_of(asked: argparse.Namespace) -> Iterator[Job]:
     found = list(jobs_in(folders_of(asked), asked))
     if not found:
         where = asked.directory or "a folder named locale here or below"
+        given = {it: ",".join(getattr(asked, it)) for it in ("domain", "locale", "exclude")}
+        chosen = " and ".join(f"--{it} {names}" for it, names in given.items() if names)
+        where += f" for {chosen}" if chosen else ""
         raise Usage(f"no PO files in {where}: name the folder with -d DIR, in which DIR/LOCALE/{FOLDER}/DOMAIN.po are")
     return iter(found)
 
