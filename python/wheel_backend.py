@@ -23,6 +23,7 @@ import io
 import os
 import re
 import shlex
+import shutil
 import subprocess
 import sys
 import sysconfig
@@ -81,8 +82,9 @@ def of_machine(what: str) -> str:
 
 @functools.cache
 def tracked() -> frozenset[Path] | None:
-    """Return the files that git tracks, or None where there is no clone: a source distribution has no other files."""
-    if TOP == HERE or not (TOP / ".git").exists():
+    """Return the files that git tracks, or None where there is no clone or no git: a source distribution has no other
+    files."""
+    if TOP == HERE or not (TOP / ".git").exists() or not shutil.which("git"):
         return None
     done = subprocess.run(["git", "-C", str(TOP), "ls-files", "-z"], capture_output=True, text=True)
     return frozenset(TOP / it for it in done.stdout.split("\0")) if done.returncode == 0 else None

@@ -70,6 +70,13 @@ if cmp -s "$wheel" "$room"/again/*.whl; then
 else
   failed 'the Python package, a wheel of another folder' 'it has other bytes'
 fi
+mkdir "$room/no_git" # (a folder of programs)
+for it in /usr/bin/*; do [ "${it##*/}" = git ] || ln -s "$it" "$room/no_git"; done
+if said=$(PATH=$room/no_git tools/wheel "$room/of_no_git" 2>&1); then
+  ok 'the Python package, a wheel without git'
+else
+  failed 'the Python package, a wheel without git' "$(tail -n 1 <<< "$said" | head -c 300)"
+fi
 for compiler in gcc clang; do
   if ! command -v $compiler > /dev/null; then
     skipped "the Python package, $compiler without warnings" "no $compiler"
