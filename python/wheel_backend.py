@@ -66,7 +66,11 @@ class Trouble(Exception):
 
 
 def run(*command: str) -> str:
-    done = subprocess.run(command, capture_output=True, text=True)
+    try:
+        done = subprocess.run(command, capture_output=True, text=True)
+    except OSError as fault:
+        needed = "building needs a C compiler and binutils, which Debian has in gcc"
+        raise Trouble(f"{command[0]} can't be run ({fault.strerror}): {needed}") from None
     if done.returncode != 0:
         raise Trouble(f"{command[0]} failed: {(done.stderr or done.stdout).strip()}")
     return done.stdout

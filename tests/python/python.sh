@@ -77,6 +77,12 @@ if said=$(PATH=$room/no_git tools/wheel "$room/of_no_git" 2>&1); then
 else
   failed 'the Python package, a wheel without git' "$(tail -n 1 <<< "$said" | head -c 300)"
 fi
+said=$(CC=none tools/wheel "$room/of_no_compiler" 2>&1)
+if [ $? = 1 ] && [[ $said == "tools/wheel: none can't be run (No such file or directory): building needs a C"* ]]; then
+  ok 'the Python package, without a compiler it says that it needs one'
+else
+  failed 'the Python package, without a compiler' "$(tail -n 1 <<< "$said" | head -c 300)"
+fi
 for compiler in gcc clang; do
   if ! command -v $compiler > /dev/null; then
     skipped "the Python package, $compiler without warnings" "no $compiler"
