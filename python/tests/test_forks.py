@@ -58,6 +58,19 @@ ctypes.CDLL(None).__register_atfork(None, None, after, None)
 test_forks.StoreTest().beside_publishes(test_forks.publishes, ctypes.PyDLL(None).fork)
 """
 
+# What a worker of uWSGI does with a watch of its master: it was forked without Python's knowledge, and ends.
+STOPS_IN_WORKER = """
+import ctypes, os, signal, sys, kobdzila
+
+watch = kobdzila.Store("shop").watch(sys.argv[1], every=0.05)
+child = ctypes.PyDLL(None).fork()
+if not child:
+    signal.alarm(int(sys.argv[2]))
+    watch.stop()
+    os._exit(0)
+print(os.waitpid(child, 0)[1])
+"""
+
 
 def po(text: str, count: int = 1) -> bytes:
     return f'msgid "a"\nmsgstr "{text}"\n'.encode() + b"".join(
@@ -320,6 +333,13 @@ class WatchTest(Folder):
                 time.sleep(0.01 * (number % 4))
                 child = forked(lambda: until(lambda: text(store) == f"v{number}"))
                 self.assertEqual(end_of(child), "", number)
+
+    @unittest.skipIf(sys.version_info >= (3, 13), "from Python 3.13 on an interpreter survives no fork but its own")
+    def test_stopped_in_worker(self) -> None:
+        """A child of a fork that Python doesn't know of, which has no thread of the watch, waits for none."""
+        command = [sys.executable, "-c", STOPS_IN_WORKER, str(self.folder), str(MOST_SECONDS)]
+        done = subprocess.run(command, capture_output=True, text=True, timeout=2 * MOST_SECONDS)
+        self.assertEqual((done.stdout, done.stderr), ("0\n", ""))
 
     def test_stopped(self) -> None:
         self.put(po("one"))

@@ -123,7 +123,8 @@ class Watch(Closing):
     def stop(self) -> None:
         """Stop the thread, and wait until it has ended. The store keeps what was loaded. `look` still looks."""
         self._end.set()
-        if threading.current_thread() is not self._thread:
+        # (in a child that was forked without Python's knowledge, as uWSGI does, the thread is the parent's)
+        if threading.current_thread() is not self._thread and self._process == os.getpid():
             self._thread.join()
         atexit.unregister(self.stop)
 
@@ -132,11 +133,13 @@ class Watch(Closing):
     def _start(self) -> None:
         self._thread = threading.Thread(target=self._run, name=f"kobdzila watches {self.folder}", daemon=True)
         self._thread.start()
+        self._process = os.getpid()
 
     def _fork_locks(self) -> tuple[()]:
         return ()  # (a look may take long; what it shows and what it has seen change under the store's lock)
 
     def _forked(self) -> None:
+        self._process = os.getpid()
         self._looking, was_stopped, self._end = threading.RLock(), self._end.is_set(), threading.Event()
         if was_stopped:
             self._end.set()
