@@ -334,6 +334,21 @@ class WatchTest(unittest.TestCase):
         self.put(self.path("fr"), po("f"))
         self.assertEqual((watch.look(), self.text()), (1, "f"))
 
+    def test_callback_that_exits(self) -> None:
+        """A callback that calls sys.exit ends the call of `watch`. In the thread it is logged, and the watch stays."""
+        self.put(self.path("fr"), po("f1"))
+        watch = self.store.watch(self.folder, refused=lambda file: sys.exit(1), every=0.02, settle=0.02)
+        self.addCleanup(watch.stop)
+        with self.assertLogs("kobdzila") as logged:
+            self.put(self.path("fr"), b"message")
+            self.until(lambda: logged.output)
+        self.assertIn("SystemExit", logged.output[0])
+        self.put(self.path("fr"), po("f2"))
+        self.until(lambda: self.text() == "f2")
+        self.put(self.path("fr"), b"message")
+        with self.assertRaises(SystemExit):
+            self.store.watch(self.folder, refused=lambda file: sys.exit(1))
+
     def test_trouble(self) -> None:
         """Neither a callback nor a store that fails ends the thread."""
         self.put(self.path("fr"), b"message")

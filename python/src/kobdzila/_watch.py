@@ -151,7 +151,7 @@ class Watch(Closing):
             try:
                 self.look()
                 getattr(self.store, "retained", 0)  # (this frees what no snapshot has any more)
-            except Exception:
+            except (Exception, SystemExit):  # (sys.exit in a callback would end the thread, and say nothing)
                 LOG.exception("a look at %s failed, and is made again", self.folder)
 
     def _steady(self) -> dict[str, Stamp]:
