@@ -39,6 +39,19 @@ while len(looks) < 2:
 print(looks)
 """
 
+# the thread of the watch waits for the look that is interrupted
+STOPS_IN_HANDLER = """
+import os, signal, sys, threading, kobdzila
+from pathlib import Path
+file = Path(sys.argv[1])
+watch = kobdzila.Store("shop").watch(file.parents[2], every=0.02, settle=0.5)
+signal.signal(signal.SIGTERM, lambda *_: watch.stop())
+file.write_bytes(file.read_bytes() + b"# new")
+threading.Timer(0.25, os.kill, [os.getpid(), signal.SIGTERM]).start()
+watch.look()
+print("stopped")
+"""
+
 
 def po(text: str) -> bytes:
     return f'msgid "a"\nmsgstr "{text}"\n'.encode()
@@ -418,6 +431,13 @@ class WatchTest(unittest.TestCase):
         done = subprocess.run([sys.executable, "-W", "error", "-c", SIGNALS, str(self.path("fr"))], timeout=60,
                               capture_output=True, text=True, check=False)
         self.assertEqual((done.returncode, done.stdout, done.stderr), (0, "[2, None]\n", ""))
+
+    def test_stop_of_a_signal_handler(self) -> None:
+        """A handler that stops the watch may interrupt a look, for which the thread waits."""
+        self.put(self.path("fr"), po("f"))
+        done = subprocess.run([sys.executable, "-W", "error", "-c", STOPS_IN_HANDLER, str(self.path("fr"))], timeout=30,
+                              capture_output=True, text=True, check=False)
+        self.assertEqual((done.returncode, done.stdout, done.stderr), (0, "stopped\n", ""))
 
     def test_end_of_process(self) -> None:
         self.put(self.path("fr"), po("f"))

@@ -121,10 +121,14 @@ class Watch(Closing):
                 self._call(file)
 
     def stop(self) -> None:
-        """Stop the thread, and wait until it has ended. The store keeps what was loaded. `look` still looks."""
+        """Stop the thread, and wait until it has ended. The store keeps what was loaded. `look` still looks.
+
+        A signal handler may call it, too. If it interrupts a look or a publish, the thread ends after that.
+        """
         self._end.set()
         # (in a child that was forked without Python's knowledge, as uWSGI does, the thread is the parent's)
-        if threading.current_thread() is not self._thread and self._process == os.getpid():
+        is_here = threading.current_thread() is not self._thread and self._process == os.getpid()
+        if is_here and not any(map(_forks.is_own, (self._looking, self.store._lock))):
             self._thread.join()
         atexit.unregister(self.stop)
 
