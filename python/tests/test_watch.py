@@ -2,6 +2,7 @@
 from __future__ import annotations
 
 import contextlib
+import errno
 import os
 import subprocess
 import sys
@@ -346,6 +347,16 @@ class WatchTest(unittest.TestCase):
         self.assertEqual([(it.path, it.fault, it.line) for it in self.refused], [(self.path("fr"), None, 0)])
         self.put(self.path("fr"), po("f"))
         self.assertEqual((watch.look(), self.text()), (1, "f"))
+
+    def test_unreadable_for_a_while(self) -> None:
+        """A file that can't be read when it has changed is reported once, and loaded as soon as it can be read."""
+        self.put(self.path("fr"), po("f1"))
+        watch = self.watch(every=30, settle=0.01)
+        self.put(self.path("fr"), po("f2"))
+        with mock.patch.object(Path, "read_bytes", side_effect=OSError(errno.EMFILE, "Too many open files")):
+            self.assertEqual((watch.look(), watch.look(), self.text()), (None, None, "f1"))
+        self.assertEqual([str(it) for it in self.refused], [f"{self.path('fr')}: Too many open files"])
+        self.assertEqual((watch.look(), self.text(), len(self.refused)), (2, "f2", 1))
 
     def test_callback_that_exits(self) -> None:
         """A callback that calls sys.exit ends the call of `watch`. In the thread it is logged, and the watch stays."""

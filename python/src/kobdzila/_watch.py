@@ -97,6 +97,7 @@ class Watch(Closing):
         self._domains = None if domains is None else frozenset(domains)
         self._options, self._allow_empty = (checked, use_fuzzy), allow_empty
         self._seen: dict[str, File] = {}  # what was loaded or refused, by path
+        self._unread: dict[str, tuple[Stamp, str]] = {}  # what couldn't be read at the last look, and why, by path
         self._shown: dict[tuple[str, str], str] = {}  # the file that was loaded last, by domain and locale
         self._filled: set[tuple[str, str]] = set()  # those domains and locales that have messages
         self._looking, self._end = threading.RLock(), threading.Event()
@@ -237,15 +238,20 @@ class Watch(Closing):
     ) -> tuple[Catalogue | None, File | None]:
         """Return the file's catalogue, unless it is refused or unchanged, and what was read.
 
-        A file that has changed again meanwhile is neither, and is checked next time.
+        A file that has changed again meanwhile is neither, and is checked next time. So is one that can't be read now,
+        as if descriptors have run out.
         """
         if self._is_older(path, stamp):
             return None, File(stamp, b"")
         try:
             data = Path(path).read_bytes()
         except OSError as fault:
-            refusals.append(FileRefused(Path(path), 0, None, fault.strerror or str(fault)))
-            return None, File(stamp, b"")
+            why = fault.strerror or str(fault)
+            if stamp_of(path) == stamp and self._unread.get(path) != (stamp, why):
+                self._unread[path] = stamp, why
+                refusals.append(FileRefused(Path(path), 0, None, why))
+            return None, None
+        self._unread.pop(path, None)
         if stamp_of(path) != stamp:
             return None, None
         file = File(stamp, hashlib.sha256(data).digest())
