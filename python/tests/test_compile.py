@@ -2,6 +2,7 @@
 from __future__ import annotations
 
 import contextlib
+import errno
 import importlib.util
 import io
 import os
@@ -393,9 +394,11 @@ class CommandTest(unittest.TestCase):
     def test_not_writable(self) -> None:
         Path("x").write_text("")
         status, _, err = self.call("-i", "locale/fr/LC_MESSAGES/shop.po", "-o", "x/y.mo")
-        self.assertEqual(status, 1)
-        self.assertIn("locale/fr/LC_MESSAGES/shop.po: x/", err)
-        self.assertIn("Not a directory", err)
+        self.assertEqual((status, err.splitlines()[0]), (1, "locale/fr/LC_MESSAGES/shop.po: x/y.mo: Not a directory"))
+        with mock.patch("os.write", side_effect=OSError(errno.ENOSPC, "No space left")):
+            status, _, err = self.call("locale/fr/LC_MESSAGES/shop.po")
+        said = "locale/fr/LC_MESSAGES/shop.po: locale/fr/LC_MESSAGES/shop.mo: No space left"
+        self.assertEqual((status, err.splitlines()[0], self.made()), (1, said, []))
 
     def test_unreadable_folder(self) -> None:
         """A folder of locales that can't be read is passed over, as other folders are."""

@@ -180,11 +180,13 @@ def replace_regular(path: str, data: bytes, old: os.stat_result | None) -> None:
         if old is not None:
             dress(new, old)
         os.replace(new, path)
-    except BaseException:
+    except BaseException as fault:
         try:
             os.unlink(new)
         except OSError:
             pass
+        if isinstance(fault, OSError):
+            fault.filename = path  # (nobody has heard of the other one)
         raise
 
 
