@@ -259,6 +259,9 @@ class CatalogTest(unittest.TestCase):
         self.assertEqual((len(ours._catalog), bool(ours._catalog)), (len(theirs._catalog), True))
         self.assertEqual(set(ours._catalog), set(theirs._catalog))
         self.assertEqual(dict(ours._catalog.items()), theirs._catalog)
+        more = {"more": "plus", "basket": "sac"}
+        self.assertEqual((ours._catalog | more, more | ours._catalog), (theirs._catalog | more, more | theirs._catalog))
+        self.assertEqual((ours._catalog | ours._catalog, repr(ours._catalog)), (theirs._catalog, repr(theirs._catalog)))
         for key in ("basket", ("%d file", 1), ("%d file", 2), "%d file", ("basket", 0), "verb\x04order", 5, None, (), ""):
             self.assertEqual(ours._catalog.get(key, "none"), theirs._catalog.get(key, "none"), key)
             self.assertEqual(key in ours._catalog, key in theirs._catalog, key)
@@ -270,6 +273,8 @@ class CatalogTest(unittest.TestCase):
             lambda it: it._catalog.update({"basket": "corbeille", ("%d file", 1): "%d fiches"}),
             lambda it: it._catalog.__setitem__("basket", "corbeille"),
             lambda it: it._catalog.__delitem__("basket"),
+            lambda it: setattr(it, "_catalog", operator.ior(it._catalog, {"basket": "corbeille"})),
+            lambda it: setattr(it, "_catalog", operator.ior(it._catalog, {})),
             lambda it: setattr(it, "_catalog", {"basket": "corbeille"}),
             lambda it: it._catalog.clear()]
         for change in changes:

@@ -167,6 +167,20 @@ class Texts(AnyMapping):
     def __reduce__(self) -> tuple[Any, ...]:
         return dict, (self.copy(),)  # (a copy of it doesn't belong to the catalogue)
 
+    def __repr__(self) -> str:
+        return repr(self.copy())
+
+    def __or__(self, other: Any) -> Any:
+        return self.copy() | other if isinstance(other, (dict, Texts)) else NotImplemented
+
+    def __ror__(self, other: Any) -> Any:
+        return other | self.copy() if isinstance(other, dict) else NotImplemented
+
+    def __ior__(self, other: Any) -> Any:
+        texts = self._changed()
+        texts |= other
+        return texts
+
     def __getitem__(self, key: Any) -> Any:
         if self._dict is not None:
             return self._dict[key]
