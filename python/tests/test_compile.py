@@ -365,6 +365,24 @@ class CommandTest(unittest.TestCase):
             self.assertEqual(err.splitlines()[:3], [f"{names[it]}:{it + 1}: unknown word" for it in (3, 50, 99)])
             self.assertEqual(len(self.made()), 97)
 
+    def test_limited_processes(self) -> None:
+        """Where the system allows no more processes, those that there are compile all files, or the first one does."""
+        self.many(64)
+        fork, files = os.fork, sorted(os.listdir("/proc/self/fd"))
+        for most in (0, 1, 3):
+            started: list[int] = []
+
+            def forks() -> int:
+                if len(started) == most:
+                    raise BlockingIOError(errno.EAGAIN, "Resource temporarily unavailable")
+                started.append(0)
+                return fork()
+
+            with mock.patch("os.fork", forks):
+                self.assertEqual(self.call("-d", "many", "-j", "4"), (0, "64 files compiled\n", ""))
+            self.assertEqual((len(started), len(self.made())), (most, 64))
+        self.assertEqual(sorted(os.listdir("/proc/self/fd")), files)
+
     def test_ended(self) -> None:
         """A process that is killed ends the run, with a reason and without a wait."""
         names = self.many(64)

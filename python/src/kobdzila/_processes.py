@@ -28,11 +28,14 @@ class Worker:
     def __init__(self, work: Work, numbers: int, others: list[int]) -> None:
         """`others` are the files of the first process that this one closes."""
         self.results, results = os.pipe()
-        self.process = os.fork()
+        try:
+            self.process = os.fork()
+        except OSError:
+            os.close(self.results)
+            os.close(results)
+            raise
         if not self.process:
-            for file in (*others, self.results):
-                os.close(file)
-            serve(work, numbers, results)
+            serve(work, numbers, results, [*others, self.results])
         os.close(results)
 
     def received(self) -> tuple[int, list[Any]]:
@@ -55,10 +58,12 @@ class Worker:
         os.waitpid(self.process, 0)
 
 
-def serve(work: Work, numbers: int, results: int) -> NoReturn:
-    """Do the pieces that come, until there are no more, and end this process."""
+def serve(work: Work, numbers: int, results: int, others: list[int]) -> NoReturn:
+    """Close the files of the first process, do the pieces that come, until there are no more, and end this process."""
     status = 1
     try:
+        for file in others:
+            os.close(file)
         signal.signal(signal.SIGINT, signal.SIG_IGN)  # (the first process decides)
         while taken := os.read(numbers, NUMBER):
             number = int.from_bytes(taken, "little")
@@ -76,15 +81,17 @@ def done_by(processes: int, pieces: int, work: Work) -> Iterator[tuple[int, list
     results as they come.
 
     Ended if a process is ended: the others are then ended as well. If the caller stops before the end, they end with
-    the piece that they are at.
+    the piece that they are at. Where the system allows fewer processes, these do it, and where none, this one.
     """
     numbers, to_numbers = os.pipe()
     workers: list[Worker] = []
     try:
-        for _ in range(processes):
-            workers.append(Worker(work, numbers, [to_numbers, *(it.results for it in workers)]))
-        os.write(to_numbers, b"".join(number.to_bytes(NUMBER, "little") for number in range(pieces)))
-        yield from received_from(workers, pieces)
+        start_workers(workers, processes, work, numbers, to_numbers)
+        if workers:
+            os.write(to_numbers, b"".join(number.to_bytes(NUMBER, "little") for number in range(pieces)))
+            yield from received_from(workers, pieces)
+        else:
+            yield from ((number, work(number)) for number in range(pieces))
     except Ended:
         for worker in workers:
             os.kill(worker.process, signal.SIGTERM)
@@ -96,6 +103,15 @@ def done_by(processes: int, pieces: int, work: Work) -> Iterator[tuple[int, list
         os.close(numbers)
         for worker in workers:
             worker.wait()
+
+
+def start_workers(workers: list[Worker], count: int, work: Work, numbers: int, to_numbers: int) -> None:
+    """Add up to this many workers, as far as there are processes and descriptors."""
+    for _ in range(count):
+        try:
+            workers.append(Worker(work, numbers, [to_numbers, *(it.results for it in workers)]))
+        except OSError:
+            return
 
 
 def received_from(workers: list[Worker], pieces: int) -> Iterator[tuple[int, list[Any]]]:
