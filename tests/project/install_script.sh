@@ -99,9 +99,9 @@ for name in 'a|b' 'a b' "it's & more" 'a[b]'; do
   holds "a folder called $name: nothing is left" is_gone
 done
 mkdir "$room/here"
-(cd "$room/here" && PREFIX=usr sh "$room/tarball/install.sh") > "$room/log" 2>&1
 PREFIX=$room/here/usr
-install
+said=$(cd "$room/here" && PREFIX=usr sh "$room/tarball/install.sh" 2>&1)
+status=$?
 holds 'a relative folder is one below the current one' all_right
 install remove
 
