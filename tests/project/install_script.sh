@@ -89,15 +89,21 @@ for shell in dash bash 'busybox sh'; do
 done
 shell='sh'
 
-for name in 'a|b' 'a b' "it's & more" 'a[b]'; do
+for name in 'a|b' 'a b' "it's & more" 'a[b]' 'a\b'; do
   PREFIX=$room/$name/usr
   install
   holds "a folder called $name" all_right
-  holds "a folder called $name: the page names it" grep -qF "$PREFIX/share/doc/kobdzila/reference" \
+  holds "a folder called $name: the page names it" grep -qF "${PREFIX//\\/\\e}/share/doc/kobdzila/reference" \
     <(sed 's/\\-/-/g' "$PREFIX/share/man/man1/msgfmt.1")
   install remove
   holds "a folder called $name: nothing is left" is_gone
 done
+PREFIX=$room/usr/
+install
+PREFIX=$room/usr
+holds 'a slash at the end of PREFIX' all_right
+holds 'a slash at the end of PREFIX: the pages name no folder with two' test -z "$(grep -rlF "$room/usr//" "$PREFIX")"
+install remove
 mkdir "$room/here"
 PREFIX=$room/here/usr
 said=$(cd "$room/here" && PREFIX=usr sh "$room/tarball/install.sh" 2>&1)
