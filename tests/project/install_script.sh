@@ -156,9 +156,10 @@ holds 'an earlier version: removed by the next one, nothing of it is left' test 
 install
 PROGRAM_PREFIX=kob- install
 holds 'a prefix for the programs' test "$("$PREFIX/bin/kob-msgfmt")" = msgfmt
-holds 'kob-compile keeps its name' test -x "$PREFIX/bin/kob-compile" -a ! -e "$PREFIX/bin/kob-kob-compile"
+holds 'kob-compile keeps its name' test -x "$PREFIX/bin/kob-compile" -a -z "$(find "$PREFIX" -name '*kob-kob-compile*')"
 holds 'kob-compile keeps its name: its completions' complete kob-compile
 holds 'a prefix for the programs: their completions' complete kob-msgfmt
+holds 'a prefix for the programs: the page has no hyphen in them' grep -qx '\.B kob\\-msgfmt' "$PREFIX/share/man/man1/kob-msgfmt.1"
 holds 'two installations: the completions of the other' complete msgfmt
 PROGRAM_PREFIX=kob- install remove
 holds 'one is removed, and the programs of the other stay' test -x "$PREFIX/bin/msgfmt" -a ! -e "$PREFIX/bin/kob-msgfmt"
