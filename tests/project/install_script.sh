@@ -193,6 +193,28 @@ script interrupting/mkdir '/bin/mkdir "$@" && kill -TERM "$PPID"'
 PATH=$room/interrupting:$PATH install
 holds 'interrupted when it has made a folder' is_refused
 holds 'interrupted, and no folder is left' test ! -e "$PREFIX"
+script interrupting/mkdir 'exec /bin/mkdir "$@"'
+script interrupting/mv '/bin/mv "$@" && kill -TERM "$PPID"'
+PATH=$room/interrupting:$PATH install
+holds 'interrupted when the first file is in its place: all of them are installed' all_right
+rm "$room/interrupting/mv"
+install remove
+# (a file of which only a part was written, as on a full disk)
+mkdir "$room/full"
+script full/cp '/bin/cp "$@" && case $* in *msgfmt*) exit 1 ;; esac'
+PATH=$room/full:$PATH install
+holds 'a file that cannot be written to its end' is_refused
+holds 'written in part, and nothing is left' test ! -e "$PREFIX"
+# what a killed installation left, or a stranger put there
+mkdir -p "$PREFIX/bin" "$PREFIX/lib"
+echo mine > "$room/mine"
+ln -s "$room/mine" "$PREFIX/bin/msgfmt.new"
+ln -s none "$PREFIX/lib/libkobdzila.so.new"
+install
+holds 'temporary names that are taken' all_right
+holds 'a link in the place of a temporary file: what it names stays' test "$(cat "$room/mine")" = mine
+install remove
+rm -rf "$PREFIX"
 install
 script interrupting/rm '/bin/rm "$@" && case $* in */folders) kill -TERM "$PPID" ;; esac'
 PATH=$room/interrupting:$PATH install remove
