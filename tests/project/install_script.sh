@@ -246,10 +246,23 @@ if [ "$(id -u)" = 0 ]; then
   status=$?
   holds 'a user without the right to remove: all of it stays' test $status = 1 -a "$(listed)" = "$before"
   install remove
+  # (a system that has nothing else but busybox)
+  if busybox=$(command -v busybox); then
+    mkdir -p "$room/system/tools"
+    { echo "$busybox" && ldd "$busybox" | grep -oE '/[^ ]+'; } | xargs realpath -s | xargs cp -L --parents -t "$room/system"
+    cp -R "$room/tarball" "$room/system"
+    said=$(chroot "$room/system" "$busybox" sh -c "$busybox --install -s /tools && export PATH=/tools &&
+      PREFIX=/ sh /tarball/install.sh" 2>&1)
+    status=$?
+    PREFIX=$room/system
+    holds 'below the root' test "$status" = 0 -a -x "$PREFIX/bin/msgfmt" -a -f "$PREFIX/include/kobdzila.h"
+  fi
 else
   skipped 'install.sh: a user without the right to write' 'only root can become another user'
 fi
 install twice
 holds 'another word is refused' test "$status" = 2
+install remove twice
+holds 'a second word is refused' test "$status" = 2
 PROGRAM_PREFIX=a/b install
 holds 'a prefix with a slash is refused' test "$status" = 2
