@@ -95,6 +95,9 @@ class LimitsTest(unittest.TestCase):
         many = ",".join(f"{a}{b}" for a in "abcdefgh" for b in "xyz")
         self.assertEqual(accepted(many), many.split(",")[:20])
         self.assertEqual(accepted("zz;q=0.1," + many)[-1], "zz")
+        whole = "fr," + " " * 495 + "de"
+        self.assertEqual((accepted(whole), accepted(whole + "x")), (["fr", "de"], ["fr"]))
+        self.assertEqual(accepted("de;q=0," * 20 + "fr"), ["fr"])
 
     def test_no_list(self) -> None:
         """A header is no list of locales, whatever it has; a string is one if it has a colon."""

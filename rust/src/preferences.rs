@@ -494,6 +494,10 @@ mod tests {
         let cut = format!("fr, {}, de", "x".repeat(500));
         assert!(Preferences::of_header(&cut).tags().eq(["fr"]));
         assert_eq!(Preferences::of_header(&"é,".repeat(400)).tags().len(), 0);
+        let whole = format!("fr,{}de", " ".repeat(495));
+        assert!(Preferences::of_header(&whole).tags().eq(["fr", "de"]));
+        assert!(Preferences::of_header(&(whole + "x")).tags().eq(["fr"]));
+        assert!(Preferences::of_header(&("de;q=0,".repeat(20) + "fr")).tags().eq(["fr"]));
     }
 
     #[test]
@@ -501,6 +505,7 @@ mod tests {
         for (tag, names) in [
             ("pt-BR", "pt-BR:pt_BR:pt"),
             ("sr-Latn-RS", "sr-Latn-RS:sr_Latn:sr_RS@latin:sr@latin:sr_RS:sr"),
+            ("sr-Latn", "sr-Latn:sr_Latn:sr@latin:sr"),
             ("fr_CA.UTF-8", "fr_CA.UTF-8:fr_CA:fr"),
             ("zh-Hans", "zh-Hans:zh_Hans:zh_CN:zh"),
             ("ca_ES@valencia", "ca_ES@valencia:ca@valencia:ca_ES:ca"),
