@@ -234,6 +234,10 @@ does 'the Rust crates, rustdoc without the library' env -u KOBDZILA_LIB_DIR DOCS
 name='the Rust crate, each public item has an example'
 said=$(python3 -B tests/rust/rust_examples.py "$room/rust/src" 2>&1)
 if [ -z "$said" ]; then ok "$name"; else failed "$name" "$said"; fi
+# (Python's tests compare its tables with CLDR's)
+name='the Rust crate, its likely scripts are those of the Python package'
+said=$(python3 -B tests/rust/rust_scripts.py 2>&1)
+if [ -z "$said" ]; then ok "$name"; else failed "$name" "$said"; fi
 name='the Rust crate, unsafe code in one module'
 said=$(grep -rlw unsafe "$crate/src" | grep -v -e '/src/sys.rs$' -e '/src/sys/' | xargs -r grep -Hnw unsafe)
 if [ -z "$said" ]; then ok "$name"; else failed "$name" "$said"; fi
