@@ -428,9 +428,10 @@ END
 (cd "$room/greeter" && PATH=$top/bin:$PATH bash -ec "$(command_of msginit | sed 1d)" &&
   cd "$crate" && cargo build -q --all-features --example greeter) > "$room/log" 2>&1
 greeter() { (cd "$room/greeter" && env -u LANGUAGE "$@" "$room/target/debug/examples/greeter" locale Ada 3 2>&1); }
-said=$(greeter LC_ALL=fr_CA.UTF-8; greeter LC_ALL=de_DE.UTF-8 LANGUAGE=sv:fr; greeter LC_ALL=C LANGUAGE=fr)
-if [ "$said" = $'Bonjour, Ada !\nIl y a 3 massifs à arroser.\nBonjour, Ada !\nIl y a 3 massifs à arroser.
-Hello, Ada!\nThere are 3 beds to water.' ]; then
+said=$(greeter LC_ALL=fr_CA.UTF-8; greeter LC_ALL=de_DE.UTF-8 LANGUAGE=sv:fr; greeter LC_ALL= LC_MESSAGES=fr LANG=C LANGUAGE=
+  greeter LC_ALL=C LANGUAGE=fr; greeter LC_ALL=C LC_MESSAGES=fr)
+french=$'Bonjour, Ada !\nIl y a 3 massifs à arroser.\n' english=$'Hello, Ada!\nThere are 3 beds to water.\n'
+if [ "$said"$'\n' = "$french$french$french$english$english" ]; then
   ok "$name"
 else
   failed "$name" "it said '$said'; $(why)"
