@@ -93,6 +93,7 @@ fn what_is_there_is_shown_at_once_and_changes_follow() {
     let garden = Garden::new("changes");
     garden.write(MO, compiled(GARDEN).mo_file());
     garden.write("fr/LC_MESSAGES/notes.txt", "no catalogue");
+    garden.write("fr/LC_MESSAGES/.garden.po", "an editor's own file");
     let watch = garden.watch();
     assert_eq!((garden.store.version(), garden.winter("fr")), (1, "Hiver".into()));
     garden.write(MO, compiled(&winter("one")).mo_file());
@@ -167,6 +168,38 @@ fn a_file_that_is_being_written_is_not_loaded() {
     let watch = garden.watch();
     write_slowly(&garden, &watch, "fr");
     assert_eq!(garden.store.version(), 2);
+}
+
+#[test]
+fn nor_is_one_while_another_folder_goes() {
+    let garden = Garden::new("another-goes");
+    garden.write(PO, winter("one"));
+    fs::create_dir_all(garden.path("de/LC_MESSAGES")).unwrap();
+    let watch = garden.watch();
+    let mut file = File::create(garden.path(PO)).unwrap();
+    file.write_all(winter("two").as_bytes()).unwrap();
+    fs::remove_dir_all(garden.path("de")).unwrap();
+    assert_eq!((watch.look(), garden.winter("fr")), (None, "one".into()));
+    drop(file);
+    comes("two", || garden.winter("fr") == "two");
+}
+
+#[test]
+fn one_that_changes_all_the_time_delays_the_others_for_some_seconds() {
+    let garden = Garden::new("restless");
+    garden.write(PO, winter("one"));
+    let _watch = garden.watch();
+    let (start, mut number) = (Instant::now(), 0);
+    while garden.winter("fr") == "one" && start.elapsed() < Duration::from_secs(60) {
+        number += 1;
+        garden.write("new", winter(&number.to_string()));
+        fs::rename(garden.path("new"), garden.path("fr/LC_MESSAGES/orchard.po")).unwrap();
+        if number == 1 {
+            garden.write(PO, winter("two"));
+        }
+        thread::sleep(Duration::from_millis(2));
+    }
+    assert_eq!(garden.winter("fr"), "two");
 }
 
 #[test]
@@ -382,6 +415,60 @@ fn a_file_may_change_several_times_within_a_second() {
         garden.write(PO, winter(text));
         comes(text, || garden.winter("fr") == text);
     }
+}
+
+#[test]
+fn other_bytes_are_a_change_even_with_the_size_and_time_of_the_old_ones() {
+    let garden = Garden::new("time");
+    garden.write(PO, winter("one"));
+    let touch = |like: &str, name: &str| {
+        let (like, name) = (garden.path(like), garden.path(name));
+        let status = Command::new("touch").arg("-r").args([like, name]).status();
+        assert!(status.unwrap().success());
+    };
+    garden.write("like", "");
+    touch(PO, "like");
+    // (time enough to set the time back before the file is read)
+    let settle = Duration::from_millis(400);
+    let _watch = garden.options().settle(settle).start(&garden.store).unwrap();
+    garden.write(PO, winter("two"));
+    touch("like", PO);
+    comes("two", || garden.winter("fr") == "two");
+}
+
+#[test]
+fn a_change_that_is_not_reported_is_found_within_a_second() {
+    // (tests/rust/rust.sh of the repository runs this where the system reports none)
+    let garden = Garden::new("unreported");
+    garden.write(PO, winter("one"));
+    let hour = Duration::from_secs(3600);
+    let _watch = garden.options().every(hour).start(&garden.store).unwrap();
+    garden.write(PO, winter("two"));
+    comes("two", || garden.winter("fr") == "two");
+}
+
+#[test]
+fn programs_that_are_started_have_no_descriptor_of_it() {
+    let garden = Garden::new("descriptors");
+    let _watch = garden.watch();
+    let list = Command::new("ls").args(["-l", "/proc/self/fd"]).output().unwrap();
+    assert!(!String::from_utf8_lossy(&list.stdout).contains("inotify"));
+}
+
+#[test]
+fn a_watch_may_be_dropped_by_its_own_function() {
+    let garden = Garden::new("own");
+    let own: Arc<Mutex<Option<Watch>>> = Arc::default();
+    let (dropped, is_dropped) = (Arc::clone(&own), Arc::new(Mutex::new(false)));
+    let flag = Arc::clone(&is_dropped);
+    let drop_it = move |_: &FileRefused| {
+        drop(dropped.lock().unwrap().take());
+        *flag.lock().unwrap() = true;
+    };
+    *own.lock().unwrap() = Some(garden.options().refused(drop_it).start(&garden.store).unwrap());
+    garden.write(PO, "msgid");
+    comes("dropped", || *is_dropped.lock().unwrap());
+    assert!(own.lock().unwrap().is_none());
 }
 
 #[test]
