@@ -83,6 +83,14 @@ passes 'the Rust crates, tests with the static library' cargo test --workspace -
 passes 'the Rust crates, examples in the documentation' cargo test --workspace --all-features --doc
 passes 'the Rust crate, tests with the shared library' cargo test --no-default-features --test it
 program=$(cd "$crate" && cargo test --all-features --test it --no-run 2>&1 | sed -n 's/.*Executable.*(\(.*\))/\1/p')
+# (a user namespace has limits of its own: the system then reports no changes of folders)
+name='the Rust crate, a watch where the system reports no changes'
+script unreported 'exec unshare -Ur sh -c '"'"'echo 0 > /proc/sys/user/max_inotify_instances && exec "$@"'"'"' - "$@"'
+if ! "$room/unreported" true 2> "$room/log"; then
+  skipped "$name" 'no user namespaces'
+else
+  passes "$name" "$room/unreported" "$program" a_change_that_is_not_reported
+fi
 if ! tests/lib/needs valgrind valgrind; then
   skipped 'the Rust crate, valgrind' 'no valgrind, and it could not be installed'
 else
