@@ -104,6 +104,8 @@ summary 'a NUL in a log' 1 "${head}ours        2       1           3.5  -\nall  
   "$(printf "$bad" 2)"
 printf '\0' > some
 summary 'nothing but a NUL' 1 "${head}all         0       0           0.0\n" "$(printf "$bad" 1)"
+printf 'ours\t0\t-\t1.5\ta.po\0b\n' > some
+summary 'a NUL in the last field' 1 "${head}all         0       0           0.0\n" "$(printf "$bad" 1)"
 printf 'GNU\t0\t\033[2J\t1.5\ta.po\nGNU\t0\t\\033[2J\t2\t\n' > some
 summary 'ESC in a log' 1 \
   "${head}GNU         1       0           1.5  \\\\033[2J\nall         1       0           1.5\n" "$(printf "$bad" 2)"
