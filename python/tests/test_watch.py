@@ -296,6 +296,41 @@ class WatchTest(unittest.TestCase):
         self.assertEqual((watch.look(), self.text()), (2, "g"))
 
     @needs_mallinfo
+    def test_old_time(self) -> None:
+        """Other bytes are loaded, also with the size and the time that the old ones had."""
+        self.put(self.path("fr"), po("f1"))
+        watch = self.watch(every=30)
+        before = os.stat(self.path("fr"))
+        self.path("fr").write_bytes(po("f2"))
+        os.utime(self.path("fr"), ns=(before.st_atime_ns, before.st_mtime_ns))
+        watch.look()
+        self.assertEqual(self.text(), "f2")
+
+    def test_restless(self) -> None:
+        """A file that changes all the time delays the others, but not for ever."""
+        self.put(self.path("fr"), po("f1"))
+        watch = self.watch(every=30)
+        end = threading.Event()
+
+        def change() -> None:
+            begun, number = time.monotonic(), 0
+            while not end.is_set() and time.monotonic() - begun < 20:
+                self.put(self.path("de"), po(f"d{number}"))
+                number += 1
+
+        restless = threading.Thread(target=change)
+        restless.start()
+        try:
+            self.until(self.path("de").exists)
+            self.put(self.path("fr"), po("f2"))
+            with mock.patch("kobdzila._watch.PATIENCE", 0.3):
+                watch.look()
+            self.assertTrue(restless.is_alive())
+        finally:
+            end.set()
+            restless.join()
+        self.assertEqual(self.text(), "f2")
+
     def test_memory(self) -> None:
         """A watch frees a replaced version once its last snapshot is closed, though nothing is published."""
         text = b'msgid "m%d"\nmsgstr "%01000d"\n\n'

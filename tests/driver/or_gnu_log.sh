@@ -114,7 +114,7 @@ summary 'other lines' 1 "${head}all         0       0           0.0\n" \
   "$(for it in 1 2 3 4; do printf "$bad" $it; done)"
 : > some
 summary 'an empty log' 0 "${head}all         0       0           0.0\n" ''
-printf 'GNU\t1\tbad option --a\\tb\t3.0\ta\\nb.po' > some
+printf 'GNU\t77\tbad option --a\\tb\t3.0\ta\\nb.po' > some
 summary 'no line end' 0 \
   "${head}GNU         1       1           3.0  bad option --a\\\\tb\nall         1       1           3.0\n" ''
 drive --summary some > /dev/full
@@ -122,6 +122,18 @@ drive --summary some > /dev/full
 status=$?
 judge 'driver, --summary to a full device' 1 'msgfmt-or-gnu: cannot write the table: No space left on device' &&
   ok 'driver, --summary to a full device'
+
+# each of several files has its part of the time
+printf '#!/bin/sh\nexec sleep 0.2\n' > slow && chmod 755 slow
+: > "$MSGFMT_OR_GNU_LOG"
+begun=$(date +%s%3N)
+GNU_MSGFMT=$room/slow drive -o x.mo ours.po ours.po ours.po
+took=$(($(date +%s%3N) - begun))
+if awk -F '\t' -v took=$took '{ sum += $4 } END { exit !(NR == 3 && sum >= 199 && sum <= took + 1) }' "$MSGFMT_OR_GNU_LOG"; then
+  ok "driver's log, milliseconds of several files"
+else
+  failed "driver's log, milliseconds of several files" "$took in all: $(cat "$MSGFMT_OR_GNU_LOG")"
+fi
 
 # --- descriptors ------------------------------------------------------------------------------------------------------
 
