@@ -49,8 +49,10 @@ flag 'ESC in a flag' '\033[1mbold-format' '\033[1mbold-format'
 flag 'a NUL in a flag' 'a\0000b-format' 'a\000b-format'
 flag 'a line end of Unicode in a flag' '\0342\0200\0250x-format' '\342\200\250x-format'
 flag 'a flag in another direction' '\0342\0200\0256x-format' '\342\200\256x-format'
+flag 'the end of another direction in a flag' '\0342\0201\0251x-format' '\342\201\251x-format'
 flag 'letters of other scripts in a flag' '\0303\0251t\0303\0251-format' 'été-format'
 flag 'a long flag' "$(printf 'é%.0s' {1..99})-format" "$(printf 'é%.0s' {1..40})"
+flag 'a long flag of ASCII' "$(printf 'x%.0s' {1..99})-format" "$(printf 'x%.0s' {1..80})"
 { header $'x\e[7m' fr && printf 'msgid "a"\nmsgstr "b"\n'; } > charset.po
 drive -o x.mo charset.po
 one_line "driver's log, ESC in a charset" 'charset=x\033[7m'
