@@ -180,6 +180,10 @@ compiles 'driver, -C and nothing left out' 'ours\t0\t-\tours.po' ours.po -C -o x
 compiles 'driver, -D' 'ours\t0\t-\tfr.po' po/fr.po -D nowhere -D po -o x.mo fr.po
 compiles 'driver, a name without .po' 'ours\t0\t-\tours' ours.po -o x.mo ours
 compiles 'driver, both' 'ours\t0\t-\tfr' po/fr.po -D po/ -o x.mo fr
+cp po/fr.po po/only.pot
+compiles 'driver, the ending .pot' 'ours\t0\t-\tonly' po/only.pot -D po -o x.mo only
+compiles 'driver, -D and an absolute name' "ours\t0\t-\t$room/po/fr.po" po/fr.po -D nowhere -o x.mo "$room/po/fr.po"
+is_of 'driver, -D with a file' 'GNU\t1\tNot a directory\tfr.po' /dev/null "$gnu" -D po/fr.po -D po -o x.mo fr.po
 compiles 'driver, a name with a tab and a line end' 'ours\t0\t-\ttab\\tand\\nline.po' ours.po \
   -o x.mo "$(printf 'tab\tand\nline.po')"
 
