@@ -23,7 +23,7 @@ import kobdzila
 from common import needs_testcapi, failures_of
 from kobdzila import Fault, Refused, compile_po
 from kobdzila._command import main
-from kobdzila._compile import replace
+from kobdzila._compile import replace, write_all
 from kobdzila._formats import braces, percents
 from texts import ARABIC, FRENCH, HEADER
 
@@ -418,6 +418,27 @@ class CommandTest(unittest.TestCase):
         said = "locale/fr/LC_MESSAGES/shop.po: locale/fr/LC_MESSAGES/shop.mo: No space left"
         self.assertEqual((status, err.splitlines()[0], self.made()), (1, said, []))
 
+    def test_temporary(self) -> None:
+        """A temporary file has no more readers than the old file, and is removed if it can't take its place."""
+        modes = []
+
+        def note(file: int, data: bytes) -> None:
+            modes.append(os.fstat(file).st_mode & 0o777)
+            write_all(file, data)
+
+        Path("x.mo").write_bytes(b"old")
+        os.chmod("x.mo", 0o640)
+        with mock.patch("kobdzila._compile.write_all", note):
+            replace("x.mo", b"new")
+        self.assertEqual((modes, os.stat("x.mo").st_mode & 0o777), ([0o600], 0o640))
+        write = os.write
+        with mock.patch("os.write", lambda file, some: write(file, some[:1])):  # (as on a disk that is nearly full)
+            replace("x.mo", b"new")
+        with mock.patch("os.replace", side_effect=OSError(errno.ENOSPC, "full")), self.assertRaises(OSError):
+            replace("x.mo", b"newer")
+        self.assertEqual(Path("x.mo").read_bytes(), b"new")
+        self.assertEqual(self.made(), ["x.mo"])
+
     def test_unreadable_folder(self) -> None:
         """A folder of locales that can't be read is passed over, as other folders are."""
         os.chmod(".", 0o755)
@@ -436,13 +457,20 @@ class CommandTest(unittest.TestCase):
     def test_another_group(self) -> None:
         if os.geteuid():
             self.skipTest("only root gives a file away")
-        for mode in (0o644, 0o640):
+        def give_group(path: str, user: int, group: int) -> None:
+            if user != -1:
+                raise PermissionError
+
+        def refuse(path: str, user: int, group: int) -> None:
+            raise PermissionError
+
+        for give, mode, left in ((refuse, 0o644, 0o644), (refuse, 0o640, 0o600), (give_group, 0o6750, 0o750)):
             Path("x.mo").write_bytes(b"old")
             os.chown("x.mo", 12345, 12345)
             os.chmod("x.mo", mode)
-            with mock.patch("os.chown", side_effect=PermissionError):
+            with mock.patch("os.chown", give):
                 replace("x.mo", b"new")
-            self.assertEqual(os.stat("x.mo").st_mode & 0o777, 0o644 if mode == 0o644 else 0o600)
+            self.assertEqual(os.stat("x.mo").st_mode & 0o7777, left)
 
     def test_permissions(self) -> None:
         before = os.umask(0o027)
