@@ -87,6 +87,18 @@ class SessionTest(unittest.TestCase):
         with self.assertRaisesRegex(SessionEnded, "closed"):
             session.publish()
 
+    def test_interrupted(self) -> None:
+        """A session that is interrupted in a round has ended: the next one would get the answers of this one."""
+        with Session() as session:
+            session.load("shop", "fr", FRENCH.encode())
+            session.publish()
+            with mock.patch.object(session, "_from") as pipe, self.assertRaises(KeyboardInterrupt):
+                pipe.readline.side_effect = KeyboardInterrupt
+                session.gettext("shop", "fr", "basket")
+            with self.assertRaises(SessionEnded) as ended:
+                session.gettext("shop", "fr", "x")
+        self.assertEqual(str(ended.exception), "interrupted in a round")
+
     def test_threads(self) -> None:
         wrong: list[object] = []
         with Session() as session:
