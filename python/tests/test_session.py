@@ -74,11 +74,28 @@ class SessionTest(unittest.TestCase):
                     call()
             self.assertEqual(session.gettext("shop", "fr", "a").text, "a")
 
+    def test_names_and_numbers(self) -> None:
+        """What has no place in a line is refused, and nothing is sent."""
+        with Session() as session:
+            for name in ("a\tb", "a\nb"):
+                with self.assertRaises(ValueError):
+                    session.gettext(name, "fr", "basket")
+                with self.assertRaises(ValueError):
+                    session.load("shop", name, FRENCH.encode())
+            for number in (-1, 1 << 64):
+                with self.assertRaises(ValueError):
+                    session.ngettext("shop", "fr", "%d file", "%d files", number)
+            self.assertEqual(session.ngettext("shop", "fr", "a", "b", (1 << 64) - 1), (0, "b"))
+
     def test_end(self) -> None:
         session = Session()
         session._process.kill()
         session._process.wait()
         for _ in range(2):
+            with self.assertRaises(SessionEnded):
+                session.gettext("shop", "fr", "a")
+        with Session() as session, mock.patch.object(session, "_from") as pipe:
+            pipe.readline.return_value = b"version\t1"  # (it ended within a line)
             with self.assertRaises(SessionEnded):
                 session.gettext("shop", "fr", "a")
         session = Session(program())
