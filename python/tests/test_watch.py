@@ -295,7 +295,6 @@ class WatchTest(unittest.TestCase):
         self.put(self.path("fr"), po("g"))
         self.assertEqual((watch.look(), self.text()), (2, "g"))
 
-    @needs_mallinfo
     def test_old_time(self) -> None:
         """Other bytes are loaded, also with the size and the time that the old ones had."""
         self.put(self.path("fr"), po("f1"))
@@ -331,6 +330,7 @@ class WatchTest(unittest.TestCase):
             restless.join()
         self.assertEqual(self.text(), "f2")
 
+    @needs_mallinfo
     def test_memory(self) -> None:
         """A watch frees a replaced version once its last snapshot is closed, though nothing is published."""
         text = b'msgid "m%d"\nmsgstr "%01000d"\n\n'
