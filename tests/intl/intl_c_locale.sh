@@ -5,22 +5,12 @@
 . tests/lib/c_common
 name='gettext, C.UTF-8'
 
-has_library "$name" || exit 0
-if ! LC_ALL=C.UTF-8 locale charmap 2> /dev/null | grep -qx UTF-8; then
-  skipped "$name" 'no locale C.UTF-8 of the GNU C library'
-  exit 0
-fi
-compiles "$name" ask tests/intl/ask_gettext.c || exit 0
+asks_in_utf8 || exit 0
 cat > "$room/version.c" << 'END'
 #include <stdlib.h>
 const char *gnu_get_libc_version(void) { return getenv("VERSION_OF_GLIBC"); }
 END
-if ! cc -shared -fPIC -o "$room/version.so" "$room/version.c" > "$room/log" 2>&1; then
-  skipped "$name" "no shared library can be linked: $(head -n 1 "$room/log")"
-  exit 0
-fi
-mkdir -p "$room/locale/fr/LC_MESSAGES"
-"$program" -o "$room/locale/fr/LC_MESSAGES/garden.mo" examples/fr.po > "$room/log" 2>&1
+links_shared version || exit 0
 
 # answer LOCALE WORD..: the translation of a word in this locale, with these words for env
 answer() {

@@ -5,12 +5,7 @@
 . tests/lib/c_common
 name='gettext, a getenv of the program'
 
-has_library "$name" || exit 0
-if ! LC_ALL=C.UTF-8 locale charmap 2> /dev/null | grep -qx UTF-8; then
-  skipped "$name" 'no locale C.UTF-8 of the GNU C library'
-  exit 0
-fi
-compiles "$name" ask tests/intl/ask_gettext.c || exit 0
+asks_in_utf8 || exit 0
 cat > "$room/getenv.c" << 'END'
 #define _GNU_SOURCE
 #include <string.h>
@@ -24,12 +19,7 @@ char *getenv(const char *name) {
     return NULL;
 }
 END
-if ! cc -shared -fPIC -o "$room/getenv.so" "$room/getenv.c" > "$room/log" 2>&1; then
-  skipped "$name" "no shared library can be linked: $(head -n 1 "$room/log")"
-  exit 0
-fi
-mkdir -p "$room/locale/fr/LC_MESSAGES"
-"$program" -o "$room/locale/fr/LC_MESSAGES/garden.mo" examples/fr.po > "$room/log" 2>&1
+links_shared getenv || exit 0
 
 # (a long name of UTF-8: a copy of it in place of `fr` would be written over other memory)
 said=$(env LC_ALL=C.UTF-8 LANGUAGE=fr OUTPUT_CHARSET="UTF-8//$(printf 'x%.0s' $(seq 4000))" \
